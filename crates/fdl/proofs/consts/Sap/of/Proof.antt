@@ -1,0 +1,13 @@
+-- `Sap::of` meets its contract: each arm rewrites with its number, the default with the one that it is not.
+use borrow.Author.Tests.{ne-eqb}
+use Rattle.fdl.proofs.consts.Sap.of.Statement.{statement}
+use Rattle.fdl.proofs.consts.Sap.of.Tie as tie
+
+returns : tie.Need-returns
+returns c = rw (c .match .keys1)
+
+returns-2 : tie.Need-returns-2
+returns-2 c = simp (ne-eqb _ _ (c .match .rest .1))
+
+pub of-spec : {M : Type 1} → statement M
+of-spec = tie.close (tie.spec returns returns-2)

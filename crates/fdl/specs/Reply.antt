@@ -1,0 +1,69 @@
+-- The status of a data reply: the nine codes and what each means, and which replies can be used at all.
+-- From 01, "One visit and one reply" ("a decision over the nine codes") and "Refusal numbers", No. 10.
+use Prim.Native.Nat.{ℕ}
+use mathlib.Core.Bool.{Bool, true, false, _&&_}
+use lib.Dec.{eqb, leb}
+use Rattle.parts.specs.Parts.{pick}
+use Rattle.fdl.specs.declared.telegram.ResponseStatus.{ResponseStatus}
+use Rattle.fdl.specs.declared.telegram.ResponseStatus.the-variants.{Ok, SapNotEnabled, DataLow, DataHigh, Other, Unusable}
+use Rattle.fdl.specs.declared.telegram.Telegram.{Telegram}
+use Rattle.fdl.specs.declared.telegram.Telegram.the-variants.{ShortConfirmation, Data, Token, Request}
+
+-- the nine codes, by the names of the Rust; any other number is unusable
+abbrev pub statusOf : ℕ → ResponseStatus
+statusOf n =
+    pick (eqb n 0) Ok
+    (pick (eqb n 1) Other
+    (pick (eqb n 2) Other
+    (pick (eqb n 3) SapNotEnabled
+    (pick (eqb n 8) DataLow
+    (pick (eqb n 9) Other
+    (pick (eqb n 10) DataHigh
+    (pick (eqb n 12) Other
+    (pick (eqb n 13) Other Unusable))))))))
+
+abbrev pub usableStatus : ResponseStatus → Bool
+usableStatus Ok = true
+usableStatus SapNotEnabled = true
+usableStatus DataLow = true
+usableStatus DataHigh = true
+usableStatus Other = true
+usableStatus Unusable = false
+
+-- 0, 8, 10 are data
+abbrev pub dataStatus : ResponseStatus → Bool
+dataStatus Ok = true
+dataStatus SapNotEnabled = false
+dataStatus DataLow = true
+dataStatus DataHigh = true
+dataStatus Other = false
+dataStatus Unusable = false
+
+-- 10 also makes diagnosis due
+abbrev pub dueStatus : ResponseStatus → Bool
+dueStatus Ok = false
+dueStatus SapNotEnabled = false
+dueStatus DataLow = false
+dueStatus DataHigh = true
+dueStatus Other = false
+dueStatus Unusable = false
+
+-- 3 gives ValidateConfig
+abbrev pub notEnabled : ResponseStatus → Bool
+notEnabled Ok = false
+notEnabled SapNotEnabled = true
+notEnabled DataLow = false
+notEnabled DataHigh = false
+notEnabled Other = false
+notEnabled Unusable = false
+
+-- the largest payload of a reply
+abbrev pub maxPayload : ℕ
+maxPayload = 246
+
+-- the reply with so many payload bytes is not refused as 10
+abbrev pub usableReply : Telegram → ℕ → Bool
+usableReply ShortConfirmation n = true
+usableReply (Data dsap ssap status) n = usableStatus (statusOf status) && leb n maxPayload
+usableReply Token n = false
+usableReply Request n = false

@@ -1,0 +1,214 @@
+// Requests and replies as values: no bytes on a wire here.
+ghost use mathlib.Core.Path.{_≡_};
+ghost use Rattle.fdl.specs.Bits.{cycled, fcbOf, fcvOf, bitNumber, bitOf, requestNumber};
+ghost use Rattle.fdl.specs.Reply.{statusOf, usableStatus, dataStatus, dueStatus, notEnabled, usableReply};
+use crate::consts::Sap;
+
+// The bit that tells a repeated request from a new one; inactive in global control.
+pub enum FrameCountBit {
+    First,
+    Low,
+    High,
+    Inactive,
+}
+
+pub enum RequestType {
+    SdnLow,
+    SrdLow,
+    SrdHigh,
+}
+
+// The header of a request.
+pub struct DataTelegramHeader {
+    pub da: u8,
+    pub sa: u8,
+    pub dsap: Sap,
+    pub ssap: Sap,
+    pub fcb: FrameCountBit,
+    pub req: RequestType,
+}
+
+// The status of a data reply; `Other` are the five usable codes that carry no data.
+pub enum ResponseStatus {
+    Ok,
+    SapNotEnabled,
+    DataLow,
+    DataHigh,
+    Other,
+    Unusable,
+}
+
+// What came in answer to a request; the payload of data is lent beside it.
+pub enum Telegram {
+    ShortConfirmation,
+    Data { dsap: Sap, ssap: Sap, status: u8 },
+    Token,
+    Request,
+}
+
+impl FrameCountBit {
+    pub fn cycle(self) -> FrameCountBit
+        ensures { λ r. ⌜ r ≡ cycled self ⌝ }
+    {
+        match self {
+            FrameCountBit::First => FrameCountBit::Low,
+            FrameCountBit::Low => FrameCountBit::High,
+            FrameCountBit::High => FrameCountBit::Low,
+            FrameCountBit::Inactive => FrameCountBit::Inactive,
+        }
+    }
+
+    pub fn fcb(self) -> u8
+        ensures { λ r. ⌜ r ≡ fcbOf self ⌝ }
+    {
+        match self {
+            FrameCountBit::First => 1,
+            FrameCountBit::Low => 0,
+            FrameCountBit::High => 1,
+            FrameCountBit::Inactive => 0,
+        }
+    }
+
+    pub fn fcv(self) -> u8
+        ensures { λ r. ⌜ r ≡ fcvOf self ⌝ }
+    {
+        match self {
+            FrameCountBit::First => 0,
+            FrameCountBit::Low => 1,
+            FrameCountBit::High => 1,
+            FrameCountBit::Inactive => 0,
+        }
+    }
+
+    // The number that stands for it in a record.
+    pub fn number(self) -> u8
+        ensures { λ r. ⌜ r ≡ bitNumber self ⌝ }
+    {
+        match self {
+            FrameCountBit::Inactive => 0,
+            FrameCountBit::First => 1,
+            FrameCountBit::Low => 2,
+            FrameCountBit::High => 3,
+        }
+    }
+
+    pub fn of(n: u8) -> FrameCountBit
+        ensures { λ r. ⌜ r ≡ bitOf n ⌝ }
+    {
+        match n {
+            1 => FrameCountBit::First,
+            2 => FrameCountBit::Low,
+            3 => FrameCountBit::High,
+            _ => FrameCountBit::Inactive,
+        }
+    }
+}
+
+impl RequestType {
+    // The low bits of the function code.
+    pub fn number(self) -> u8
+        ensures { λ r. ⌜ r ≡ requestNumber self ⌝ }
+    {
+        match self {
+            RequestType::SdnLow => 0x04,
+            RequestType::SrdLow => 0x0C,
+            RequestType::SrdHigh => 0x0D,
+        }
+    }
+}
+
+impl ResponseStatus {
+    pub fn of(code: u8) -> ResponseStatus
+        ensures { λ r. ⌜ r ≡ statusOf code ⌝ }
+    {
+        match code {
+            0 => ResponseStatus::Ok,
+            1 => ResponseStatus::Other,
+            2 => ResponseStatus::Other,
+            3 => ResponseStatus::SapNotEnabled,
+            8 => ResponseStatus::DataLow,
+            9 => ResponseStatus::Other,
+            10 => ResponseStatus::DataHigh,
+            12 => ResponseStatus::Other,
+            13 => ResponseStatus::Other,
+            _ => ResponseStatus::Unusable,
+        }
+    }
+
+    pub fn is_usable(self) -> bool
+        ensures { λ r. ⌜ r ≡ usableStatus self ⌝ }
+    {
+        match self {
+            ResponseStatus::Ok => true,
+            ResponseStatus::SapNotEnabled => true,
+            ResponseStatus::DataLow => true,
+            ResponseStatus::DataHigh => true,
+            ResponseStatus::Other => true,
+            ResponseStatus::Unusable => false,
+        }
+    }
+
+    pub fn is_data(self) -> bool
+        ensures { λ r. ⌜ r ≡ dataStatus self ⌝ }
+    {
+        match self {
+            ResponseStatus::Ok => true,
+            ResponseStatus::SapNotEnabled => false,
+            ResponseStatus::DataLow => true,
+            ResponseStatus::DataHigh => true,
+            ResponseStatus::Other => false,
+            ResponseStatus::Unusable => false,
+        }
+    }
+
+    // Whether it makes a diagnosis due.
+    pub fn is_due(self) -> bool
+        ensures { λ r. ⌜ r ≡ dueStatus self ⌝ }
+    {
+        match self {
+            ResponseStatus::Ok => false,
+            ResponseStatus::SapNotEnabled => false,
+            ResponseStatus::DataLow => false,
+            ResponseStatus::DataHigh => true,
+            ResponseStatus::Other => false,
+            ResponseStatus::Unusable => false,
+        }
+    }
+
+    pub fn is_not_enabled(self) -> bool
+        ensures { λ r. ⌜ r ≡ notEnabled self ⌝ }
+    {
+        match self {
+            ResponseStatus::Ok => false,
+            ResponseStatus::SapNotEnabled => true,
+            ResponseStatus::DataLow => false,
+            ResponseStatus::DataHigh => false,
+            ResponseStatus::Other => false,
+            ResponseStatus::Unusable => false,
+        }
+    }
+}
+
+impl Telegram {
+    // Whether a reply with a payload of `len` bytes can be used at all.
+    pub fn is_usable(self, len: usize) -> bool
+        ensures { λ r. ⌜ r ≡ usableReply self len ⌝ }
+    {
+        match self {
+            Telegram::ShortConfirmation => true,
+            Telegram::Data {
+                dsap: _,
+                ssap: _,
+                status,
+            } => {
+                if ResponseStatus::of(status).is_usable() {
+                    len <= 246
+                } else {
+                    false
+                }
+            }
+            Telegram::Token => false,
+            Telegram::Request => false,
+        }
+    }
+}
