@@ -274,7 +274,18 @@ lent-put a at room new old left h e =
     ∙ ap (λ (x : List ℕ). take a old ++ x) (append-nil left ∙ e ∙ ap (putIn at room new) whole)
     ∙ tail-put a at room new old h
 
--- ---- a run of single stores, and a put right behind another
+-- ---- what fills its room, nothing at all, a run of single stores, and a put right behind another
+
+pub room-own : (at : ℕ) (new old : List ℕ) → roomFor at (length new) new old ≡ inside at (length new) old
+unfolding roomFor
+room-own at new old = rw (le-leb (length new) (length new) (omega arith))
+
+pub put-nothing : (at : ℕ) (old : List ℕ) → putIn at 0 [] old ≡ old
+unfolding splice
+put-nothing at old =
+    by-test (roomFor at 0 [] old)
+    (λ e. put-done at 0 [] old e ∙ (let w : at + 0 ≡ at = omega arith in rw w (take-append-drop at old)))
+    (λ e. put-kept at 0 [] old e)
 
 pub put-sets : (at : ℕ) (new old : List ℕ) → at + length new ≤ length old → sets old at new ≡ putIn at (length new) new old
 unfolding splice
@@ -282,3 +293,29 @@ put-sets at new old h =
     sets-eq new old at h
     ∙ append-assoc (take at old) new (drop (at + length new) old)
     ∙ sym (put-done at (length new) new old (room-yes at (length new) new old (omega arith) (inside-yes at (length new) old h)))
+
+splice-append : (at : ℕ) (a b old : List ℕ) → at + length a ≤ length old → splice (at + length a) b (splice at a old) ≡ splice at (a ++ b) old
+unfolding splice
+splice-append at a b old h =
+    let p : List ℕ = take at old in
+    let len : length (p ++ a) ≡ at + length a = length-append p a ∙ ap (λ (k : ℕ). k + length a) (length-take-le at old (omega arith)) in
+    let front : take (at + length a) (p ++ (a ++ drop (at + length a) old)) ≡ p ++ a =
+    ap (take (at + length a)) (sym (append-assoc p a (drop (at + length a) old))) ∙ take-at (p ++ a) (drop (at + length a) old) (at + length a) len in
+    let back : drop ((at + length a) + length b) (p ++ (a ++ drop (at + length a) old)) ≡ drop (at + length (a ++ b)) old =
+    splice-behind ((at + length a) + length b) at a old (omega arith) (omega arith)
+    ∙ ap (λ (k : ℕ). drop k old) (add-assoc at (length a) (length b) ∙ ap (λ (k : ℕ). at + k) (sym (length-append a b))) in
+    ap (λ (x : List ℕ). x ++ (b ++ drop ((at + length a) + length b) (p ++ (a ++ drop (at + length a) old)))) front
+    ∙ ap (λ (x : List ℕ). (p ++ a) ++ (b ++ x)) back
+    ∙ append-assoc p a (b ++ drop (at + length (a ++ b)) old)
+    ∙ ap (λ (x : List ℕ). p ++ x) (sym (append-assoc a b (drop (at + length (a ++ b)) old)))
+
+pub put-append : (at : ℕ) (a b old : List ℕ) → at + length (a ++ b) ≤ length old
+    → putIn (at + length a) (length b) b (putIn at (length a) a old) ≡ putIn at (length (a ++ b)) (a ++ b) old
+put-append at a b old h =
+    let n : length (a ++ b) ≡ length a + length b = length-append a b in
+    let first : putIn at (length a) a old ≡ splice at a old = put-done at (length a) a old (room-own at a old ∙ inside-yes at (length a) old (omega arith)) in
+    let size : length (splice at a old) ≡ length old = length-splice at a old (omega arith) in
+    ap (putIn (at + length a) (length b) b) first
+    ∙ put-done (at + length a) (length b) b (splice at a old) (room-own (at + length a) b (splice at a old) ∙ inside-yes (at + length a) (length b) (splice at a old) (omega arith))
+    ∙ splice-append at a b old (omega arith)
+    ∙ sym (put-done at (length (a ++ b)) (a ++ b) old (room-own at (a ++ b) old ∙ inside-yes at (length (a ++ b)) old h))
