@@ -242,7 +242,7 @@ module _ (at room : ℕ) (new old : List ℕ) where
   storing-ends out i s h =
       stored at room new old out (s .short) (inside-yes at room old (s .range)) (s .bytes ∙ splice-done at new old i (omega arith))
 
--- ---- what a callee put into a lent tail `&mut old[a..]`, said of the whole: left is the tail when it comes back, as the borrow checker states it
+-- ---- what a callee put into a lent tail `&mut old[a..]`, said of the whole; left is that tail when it comes back
 
 tail-room : (a at room : ℕ) (new old : List ℕ) → a ≤ length old → roomFor at room new (drop a old) ≡ roomFor (a + at) room new old
 unfolding roomFor inside
@@ -265,13 +265,16 @@ tail-put a at room new old h =
     (λ e. ap (λ (x : List ℕ). take a old ++ x) (put-done at room new (drop a old) (same ∙ e)) ∙ tail-splice a at new old ∙ sym (put-done (a + at) room new old e))
     (λ e. ap (λ (x : List ℕ). take a old ++ x) (put-kept at room new (drop a old) (same ∙ e)) ∙ take-append-drop a old ∙ sym (put-kept (a + at) room new old e))
 
+-- the tail `&l[a..]`, as the borrow checker states it
+pub rest : (a : ℕ) (l : List ℕ) → take (length l - a) (drop a l) ≡ drop a l
+rest a l = take-all (length l - a) (drop a l) (simp length-drop (omega arith))
+
 pub lent-put : (a at room : ℕ) (new old left : List ℕ) → a ≤ length old → left ≡ putIn at room new (take (length old - a) (drop a old))
     → take a old ++ (left ++ drop (length old - a) (drop a old)) ≡ putIn (a + at) room new old
 lent-put a at room new old left h e =
-    let whole : take (length old - a) (drop a old) ≡ drop a old = take-all (length old - a) (drop a old) (simp length-drop (omega arith)) in
     let none : drop (length old - a) (drop a old) ≡ [] = drop-of-length-le (drop a old) {i = length old - a} (simp length-drop (omega arith)) in
     ap (λ (x : List ℕ). take a old ++ (left ++ x)) none
-    ∙ ap (λ (x : List ℕ). take a old ++ x) (append-nil left ∙ e ∙ ap (putIn at room new) whole)
+    ∙ ap (λ (x : List ℕ). take a old ++ x) (append-nil left ∙ e ∙ ap (putIn at room new) (rest a old))
     ∙ tail-put a at room new old h
 
 -- ---- what fills its room, nothing at all, a run of single stores, and a put right behind another
