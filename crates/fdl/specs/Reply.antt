@@ -2,6 +2,7 @@
 -- From 01, "One visit and one reply" ("a decision over the nine codes") and "Refusal numbers", No. 10.
 use Prim.Native.Nat.{ℕ}
 use mathlib.Core.Bool.{Bool, true, false, _&&_}
+use mathlib.Core.List.{List, []}
 use lib.Dec.{eqb, leb}
 use Rattle.parts.specs.Parts.{pick}
 use Rattle.fdl.specs.declared.telegram.ResponseStatus.{ResponseStatus}
@@ -56,6 +57,20 @@ notEnabled DataLow = false
 notEnabled DataHigh = false
 notEnabled Other = false
 notEnabled Unusable = false
+
+-- a reply is data by its status
+abbrev pub hasData : Telegram → Bool
+hasData ShortConfirmation = false
+hasData (Data dsap ssap status) = dataStatus (statusOf status)
+hasData Token = false
+hasData Request = false
+
+-- the payload that a reply carries: none with a short confirmation, whatever is lent
+abbrev pub carried : Telegram → List ℕ → List ℕ
+carried ShortConfirmation payload = []
+carried (Data dsap ssap status) payload = payload
+carried Token payload = []
+carried Request payload = []
 
 -- the largest payload of a reply
 abbrev pub maxPayload : ℕ

@@ -1,7 +1,7 @@
 // Requests and replies as values: no bytes on a wire here.
 ghost use mathlib.Core.Path.{_≡_};
 ghost use Rattle.fdl.specs.Bits.{cycled, fcbOf, fcvOf, bitNumber, bitOf, requestNumber};
-ghost use Rattle.fdl.specs.Reply.{statusOf, usableStatus, dataStatus, dueStatus, notEnabled, usableReply};
+ghost use Rattle.fdl.specs.Reply.{statusOf, usableStatus, dataStatus, dueStatus, notEnabled, hasData, usableReply};
 use crate::consts::Sap;
 
 // The bit that tells a repeated request from a new one; inactive in global control.
@@ -190,6 +190,22 @@ impl ResponseStatus {
 }
 
 impl Telegram {
+    // Whether it is data by its status.
+    pub fn has_data(self) -> bool
+        ensures { λ r. ⌜ r ≡ hasData self ⌝ }
+    {
+        match self {
+            Telegram::ShortConfirmation => false,
+            Telegram::Data {
+                dsap: _,
+                ssap: _,
+                status,
+            } => ResponseStatus::of(status).is_data(),
+            Telegram::Token => false,
+            Telegram::Request => false,
+        }
+    }
+
     // Whether a reply with a payload of `len` bytes can be used at all.
     pub fn is_usable(self, len: usize) -> bool
         ensures { λ r. ⌜ r ≡ usableReply self len ⌝ }

@@ -1,10 +1,24 @@
 // Parts of lent byte slices: what the Rust's `ManagedSlice` images and buffers become.
 // Every function is total: a range that does not lie in the slice reads as empty, and nothing is written.
 ghost use mathlib.Core.Path.{_≡_};
-ghost use Prim.Native.Nat.{_+_};
+ghost use Prim.Native.Nat.{_+_, _<_};
 ghost use lib.Dec.{leb};
-ghost use lib.ListN.{length};
+ghost use lib.ListN.{getD};
 ghost use Rattle.parts.specs.Parts.{pick, inside, part, zeros, Put};
+
+// An offset, widened where it is used.
+pub fn place(at: u16) -> usize
+    ensures { λ r. ⌜ (r ≡ at) × (r < 65536) ⌝ }
+{
+    at as usize
+}
+
+// A length, widened where it is used.
+pub fn size(len: u8) -> usize
+    ensures { λ r. ⌜ (r ≡ len) × (r < 256) ⌝ }
+{
+    len as usize
+}
 
 // Whether the range of `len` bytes from `at` lies in `total` bytes.
 pub fn inside(at: usize, len: usize, total: usize) -> bool
@@ -17,6 +31,13 @@ pub fn inside(at: usize, len: usize, total: usize) -> bool
         return false;
     }
     true
+}
+
+// The byte at an index; 0 where there is none.
+pub fn byte_at(src: &[u8], i: usize) -> u8
+    ensures { λ r. ⌜ r ≡ getD (now (src .entry)) i 0 ⌝ }
+{
+    if i < src.len() { src[i] } else { 0 }
 }
 
 // `src` is copied to the start of the range of `room` bytes from `at` where it fits.

@@ -1,103 +1,142 @@
--- What the functions that write into lent bytes leave, said of the definitions.
--- The idea: `putIn` answers what fits by `roomFor`, so each fact is one case of that test.
-use mathlib.Core.Path.{_≡_, refl, sym, ap, _∙_, subst}
+-- What the pieces of a reply leave, put together to what the whole reply leaves.
+-- The idea: what a state waits for decides which piece there is, and what the others would have been does not matter to it.
+use mathlib.Core.Path.{_≡_, refl, sym, ap, _∙_}
 use mathlib.Core.Bool.{Bool, true, false, _&&_}
-use mathlib.Core.List.{List, [], _∷_, _++_}
-use Prim.Native.Nat.{ℕ, _+_, _-_, _≤_, _<_}
+use mathlib.Core.List.{List, []}
+use Prim.Native.Nat.{ℕ, _/_, _%_}
 use native.Mathlib.Omega.{arith}
-use lib.ListN.{length, take, drop, length-append}
+use lib.ListN.{length, drop}
 use lib.Dec.{leb, eqb}
-use borrow.Author.Tests.{le-leb, leb-true, leb-false, eq-eqb, ne-eqb}
-use Rattle.parts.specs.Parts.{pick, inside, roomFor, putIn, Put}
-use Rattle.parts.proofs.Laws.{by-test, room-own, room-new, room-outside, put-kept, inside-yes, inside-leb, length-put, lent-put, put-append}
-use Rattle.fdl.specs.declared.parameters.Parameters.{Parameters}
-use Rattle.peripheral.specs.declared.options.PeripheralOptions.{PeripheralOptions}
+use borrow.Author.Tests.{le-leb, eqb-true, eq-eqb, ne-eqb}
+use Rattle.parts.specs.Parts.{pick, inside, roomFor, Put}
+use Rattle.parts.proofs.Laws.{by-test, put-kept, put-nothing, room-outside, and-false}
+use Rattle.fdl.specs.Reply.{hasData, carried}
+use Rattle.fdl.specs.declared.telegram.Telegram.{Telegram}
+use Rattle.fdl.specs.declared.telegram.Telegram.the-variants.{ShortConfirmation, Data, Token, Request}
+use Rattle.telegrams.specs.declared.diagnosis.DiagnosticsInfo.{DiagnosticsInfo}
+use Rattle.telegrams.specs.Diagnosis.{taken, diagnosisOf, extended, ExtStored}
+use Rattle.station.specs.declared.record.Station.{Station}
+use Rattle.station.specs.declared.reply.Heard.{Heard}
+use Rattle.station.specs.Record.{tookOf}
+use Rattle.station.specs.Reply.{heardOf, isExchanged}
+use Rattle.station.proofs.Laws.{waitsDiagnosis, waitsData, exchanges, heard-untaken, heard-diagnosis, heard-diagnosis-keeps, heard-data, heard-data-event, heard-neither, heard-neither-keeps}
 use Rattle.peripheral.specs.declared.record.Peripheral.{Peripheral}
-use Rattle.peripheral.specs.Payload.{paramHead, Written}
-use Rattle.peripheral.specs.Diagnosis.{ExtStored}
-use Rattle.peripheral.specs.Reply.{isImage, ImageStored}
+use Rattle.peripheral.specs.declared.reply.Response.{Response}
+use Rattle.peripheral.specs.declared.reply.Reply.{Reply}
+use Rattle.peripheral.specs.Reply.{storedLength, diagsTaken, stationTook, Handled, isImage, withImage, ImageStored, withHeard, hearsOf, Replied}
 
--- ---- a payload at the front of the buffer
+-- ---- a diagnosis that is taken or not
 
-module _ (n : ℕ) (payload buf out : List ℕ) (fitted : Bool) (e : n ≡ length payload) (s : Put 0 n payload buf out fitted) where
-  own : fitted ≡ inside 0 (length payload) buf
-  own = s .answer ∙ ap (λ (k : ℕ). roomFor 0 k payload buf) e ∙ room-own 0 payload buf
+module _ (t : Telegram) (p : Peripheral) (payload diags : List ℕ) where
+  -- d is the diagnosis that was read, n how many bytes are stored then
+  module _ (is : taken t (length payload) ≡ true) (d : DiagnosticsInfo) (ed : d ≡ diagnosisOf payload) (n : ℕ) (s : Station) (es : s ≡ tookOf d n (p .station)) where
+    took : (out : List ℕ) → n ≡ storedLength p payload diags → out ≡ diagsTaken p payload diags → Handled t p payload diags out (record { taken = true; station = s })
+    unfolding stationTook
+    took out en eo = record { answer = sym is; after = es ∙ rw is (rw (ed, en) refl); bytes = rw is eo }
 
-  bytes : out ≡ putIn 0 (length payload) payload buf
-  bytes = s .bytes ∙ ap (λ (k : ℕ). putIn 0 k payload buf) e
+    -- tail is the part from byte 6
+    pub took-extended : (out tail : List ℕ) → d .flags / 8 % 2 ≡ 1 → tail ≡ drop 6 payload → ExtStored (p .ranges .diag) (p .ranges .«diag_room») (p .station .«diag_len») tail diags out n
+        → Handled t p payload diags out (record { taken = true; station = s })
+    unfolding storedLength diagsTaken
+    took-extended out tail f et e =
+        let x : extended payload ≡ true = eq-eqb (diagnosisOf payload .flags / 8 % 2) 1 (rw ed at f) in
+        took out (rw x (e .stored ∙ rw et refl)) (rw x (e .bytes ∙ rw et refl))
 
-  pub written : fitted ≡ true → Written payload buf out n
-  written t = record { len = e ∙ rw (sym own ∙ t) refl; bytes = bytes }
+    pub took-plain : (d .flags / 8 % 2 ≡ 1 → ⊥) → n ≡ p .station .«diag_len» → Handled t p payload diags diags (record { taken = true; station = s })
+    unfolding storedLength diagsTaken
+    took-plain f en =
+        let x : extended payload ≡ false = ne-eqb (diagnosisOf payload .flags / 8 % 2) 1 (rw ed at f) in
+        took diags (rw x en) (rw x refl)
 
-  pub unwritten : fitted ≡ false → Written payload buf out 0
-  unwritten t = record { len = rw (sym own ∙ t) refl; bytes = bytes }
-
-pub written-as : (a b buf out : List ℕ) (r : ℕ) → a ≡ b → Written a buf out r → Written b buf out r
-written-as a b buf out r e w = subst (λ (l : List ℕ). Written l buf out r) e w
-
-pub head-length : (u : Parameters) (o : PeripheralOptions) → length (paramHead u o) ≡ 7
-unfolding paramHead
-head-length u o = refl
-
-module _ (u : Parameters) (o : PeripheralOptions) (user buf : List ℕ) where
-  payload-length : length (paramHead u o ++ user) ≡ 7 + length user
-  payload-length = length-append (paramHead u o) user ∙ ap (λ (k : ℕ). k + length user) (head-length u o)
-
-  -- x is the buffer with the head, left what the copier left of the part from byte 7
-  pub built : (x left : List ℕ) → leb (7 + length user) (length buf) ≡ true → x ≡ putIn 0 7 (paramHead u o) buf
-      → left ≡ putIn 0 (length user) user (take (length x - 7) (drop 7 x))
-      → Written (paramHead u o ++ user) buf (take 7 x ++ (left ++ drop (length x - 7) (drop 7 x))) (7 + length user)
-  built x left t ex el =
-      let h : 7 + length user ≤ length buf = leb-true _ _ t in
-      let n = payload-length in
-      let lx : length x ≡ length buf = ap length ex ∙ length-put 0 7 (paramHead u o) buf in
-      let all : 0 + length (paramHead u o ++ user) ≤ length buf = omega arith in
-      let seven : length (paramHead u o) ≡ 7 = head-length u o in
-      record {
-        len = sym n ∙ rw (inside-yes 0 (length (paramHead u o ++ user)) buf all) refl;
-        bytes =
-            lent-put 7 0 (length user) user x left (omega arith) el
-            ∙ ap (putIn (7 + 0) (length user) user) ex
-            ∙ subst (λ (k : ℕ). putIn (0 + k) (length user) user (putIn 0 k (paramHead u o) buf) ≡ putIn 0 (length (paramHead u o ++ user)) (paramHead u o ++ user) buf) seven (put-append 0 (paramHead u o) user buf all);
-      }
-
-  pub unbuilt : leb (7 + length user) (length buf) ≡ false → Written (paramHead u o ++ user) buf buf 0
-  unbuilt t =
-      let h : length buf < 7 + length user = leb-false _ _ t in
-      let n = payload-length in
-      let w : leb (0 + length (paramHead u o ++ user)) (length buf) ≡ leb (7 + length user) (length buf) = ap (λ (k : ℕ). leb k (length buf)) (omega arith) in
-      let out : inside 0 (length (paramHead u o ++ user)) buf ≡ false = sym (inside-leb 0 (length (paramHead u o ++ user)) buf) ∙ w ∙ t in
-      record { len = rw out refl; bytes = sym (put-kept 0 (length (paramHead u o ++ user)) (paramHead u o ++ user) buf (room-own 0 (paramHead u o ++ user) buf ∙ out)) }
-
--- ---- the extended part in its room
-
-module _ (at room kept : ℕ) (ext diags out : List ℕ) (fitted : Bool) (s : Put at room ext diags out fitted) where
-  pub ext-short : fitted ≡ true → length ext ≤ room
-  ext-short t = room-new at room ext diags (sym (s .answer) ∙ t)
-
-  pub ext-stored : fitted ≡ true → ExtStored at room kept ext diags out (length ext)
-  ext-stored t = record { stored = rw (sym (s .answer) ∙ t) refl; bytes = s .bytes }
-
-  pub ext-kept : fitted ≡ false → ExtStored at room kept ext diags out kept
-  ext-kept t = record { stored = rw (sym (s .answer) ∙ t) refl; bytes = s .bytes }
+  pub not-taken : taken t (length payload) ≡ false → Handled t p payload diags diags (record { taken = false; station = p .station })
+  not-taken e = record { answer = sym e; after = rw e refl; bytes = rw e refl }
 
 -- ---- the input image
 
-module _ (p : Peripheral) (payload inputs : List ℕ) where
-  pub image-stored : (out : List ℕ) (r : Bool) → length payload ≡ p .ranges .«input_len» → Put (p .ranges .inputs) (p .ranges .«input_len») payload inputs out r → ImageStored p payload inputs out r
+module _ (t : Telegram) (p : Peripheral) (payload inputs : List ℕ) where
+  pub image-stored : (out : List ℕ) (r : Bool) → hasData t ≡ true → length payload ≡ p .ranges .«input_len» → Put (p .ranges .inputs) (p .ranges .«input_len») payload inputs out r
+      → ImageStored t p payload inputs out r
   unfolding isImage roomFor
-  image-stored out r e s =
+  image-stored out r h e s =
       let same : eqb (length payload) (p .ranges .«input_len») ≡ true = eq-eqb _ _ e in
       let short : leb (length payload) (p .ranges .«input_len») ≡ true = le-leb (length payload) (p .ranges .«input_len») (omega arith) in
-      let is : r ≡ inside (p .ranges .inputs) (p .ranges .«input_len») inputs = s .answer ∙ rw short refl in
       record {
-        answer = rw same is;
+        answer = rw (h, same) (s .answer ∙ rw short refl);
         bytes =
-            rw same
-            (by-test (inside (p .ranges .inputs) (p .ranges .«input_len») inputs) (λ t. rw t (s .bytes))
-            (λ t. rw t (s .bytes ∙ put-kept (p .ranges .inputs) (p .ranges .«input_len») payload inputs (room-outside (p .ranges .inputs) (p .ranges .«input_len») payload inputs t))));
+            rw (h, same)
+            (by-test (inside (p .ranges .inputs) (p .ranges .«input_len») inputs) (λ i. rw i (s .bytes))
+            (λ i. rw i (s .bytes ∙ put-kept (p .ranges .inputs) (p .ranges .«input_len») payload inputs (room-outside (p .ranges .inputs) (p .ranges .«input_len») payload inputs i))));
       }
 
-  pub image-other : (length payload ≡ p .ranges .«input_len» → ⊥) → ImageStored p payload inputs inputs false
+  no-image : (hasData t && isImage p payload inputs) ≡ false → ImageStored t p payload inputs inputs false
+  no-image e = record { answer = sym e; bytes = rw e refl }
+
+  pub other-length : (length payload ≡ p .ranges .«input_len» → ⊥) → ImageStored t p payload inputs inputs false
   unfolding isImage
-  image-other d = let other : eqb (length payload) (p .ranges .«input_len») ≡ false = ne-eqb _ _ d in record { answer = rw other refl; bytes = rw other refl }
+  other-length d = no-image (and-false (hasData t) _ (rw (ne-eqb _ _ d) refl))
+
+  pub no-data : hasData t ≡ false → ImageStored t p payload inputs inputs false
+  no-data e = no-image (rw e refl)
+
+  -- a short confirmation carries nothing, and leaves the pool as it was
+  image-pool : (fits : Bool) → pick (hasData t && fits) (withImage p payload inputs) inputs ≡ pick (exchanges t (eqb (p .ranges .«input_len») 0) fits) (withImage p (carried t payload) inputs) inputs
+  image-pool = by-kind t
+    where
+      by-kind : (k : Telegram) (fits : Bool) → pick (hasData k && fits) (withImage p payload inputs) inputs ≡ pick (exchanges k (eqb (p .ranges .«input_len») 0) fits) (withImage p (carried k payload) inputs) inputs
+      by-kind ShortConfirmation fits =
+          by-test (eqb (p .ranges .«input_len») 0) (λ z. rw z (rw (eqb-true (p .ranges .«input_len») 0 z) (sym (put-nothing (p .ranges .inputs) inputs)))) (λ z. rw z refl)
+      by-kind (Data dsap ssap status) fits = refl
+      by-kind Token fits = refl
+      by-kind Request fits = refl
+
+-- ---- the whole reply
+
+module _ (t : Telegram) (p : Peripheral) (payload inputs diags : List ℕ) where
+  empty : Bool
+  empty = eqb (p .ranges .«input_len») 0
+
+  diagnosis-heard : (h : Response) (out : List ℕ) → Handled t p payload diags out h → waitsDiagnosis (p .station) ≡ true
+      → heardOf t (h .taken) (h .station) empty false (p .station) ≡ hearsOf t p payload inputs diags
+  unfolding hearsOf empty
+  diagnosis-heard h out s w =
+      ap (λ (b : Bool). heardOf t b (h .station) empty false (p .station)) (s .answer)
+      ∙ by-test (taken t (length payload)) (λ e. ap (λ (q : Station). heardOf t (taken t (length payload)) q empty false (p .station)) (s .after ∙ rw e refl))
+      (λ e. rw e (heard-untaken t (h .station) (stationTook p payload diags) empty false (p .station)))
+      ∙ heard-diagnosis t (taken t (length payload)) (stationTook p payload diags) empty (p .station) false (isImage p payload inputs) w
+
+  pub replied-diagnosis : (h : Response) (out : List ℕ) (heard : Heard) (r : Reply) → Handled t p payload diags out h → waitsDiagnosis (p .station) ≡ true
+      → heard ≡ heardOf t (h .taken) (h .station) (eqb (p .ranges .«input_len») 0) false (p .station) → r ≡ withHeard p heard
+      → Replied t p payload inputs diags inputs out r
+  unfolding hearsOf empty
+  replied-diagnosis h out heard r s w eh er =
+      record {
+        answer = er ∙ ap (withHeard p) (eh ∙ diagnosis-heard h out s w);
+        inputPool = rw (heard-diagnosis-keeps t (taken t (length payload)) (stationTook p payload diags) empty (p .station) (isImage p payload inputs) w) refl;
+        diagPool = rw w (s .bytes);
+      }
+
+  pub replied-data : (stored : Bool) (out : List ℕ) (heard : Heard) (r : Reply) → ImageStored t p payload inputs out stored → waitsDiagnosis (p .station) ≡ false → waitsData (p .station) ≡ true
+      → heard ≡ heardOf t false (p .station) (eqb (p .ranges .«input_len») 0) stored (p .station) → r ≡ withHeard p heard
+      → Replied t p payload inputs diags out diags r
+  unfolding hearsOf empty
+  replied-data stored out heard r s w d eh er =
+      let q = stationTook p payload diags in
+      let tk = taken t (length payload) in
+      record {
+        answer = er ∙ ap (withHeard p) (eh ∙ ap (λ (b : Bool). heardOf t false (p .station) empty b (p .station)) (s .answer) ∙ heard-data t tk q empty (p .station) false (p .station) (isImage p payload inputs) d);
+        inputPool = rw (heard-data-event t tk q empty (p .station) (isImage p payload inputs) d) (s .bytes ∙ image-pool t p payload inputs (isImage p payload inputs));
+        diagPool = rw w refl;
+      }
+
+  pub replied-neither : (heard : Heard) (r : Reply) → waitsDiagnosis (p .station) ≡ false → waitsData (p .station) ≡ false
+      → heard ≡ heardOf t false (p .station) (eqb (p .ranges .«input_len») 0) false (p .station) → r ≡ withHeard p heard
+      → Replied t p payload inputs diags inputs diags r
+  unfolding hearsOf empty
+  replied-neither heard r w d eh er =
+      let q = stationTook p payload diags in
+      let tk = taken t (length payload) in
+      record {
+        answer = er ∙ ap (withHeard p) (eh ∙ heard-neither t tk q empty (p .station) false (p .station) (isImage p payload inputs) false w d);
+        inputPool = rw (heard-neither-keeps t tk q empty (p .station) (isImage p payload inputs) w d) refl;
+        diagPool = rw w refl;
+      }

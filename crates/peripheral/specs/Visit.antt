@@ -1,72 +1,57 @@
--- A visit: what it does, the record afterwards, and the header of what it sends.
--- From 01, "One visit and one reply", its first paragraph and the table of requests.
+-- A visit to a balance: what it does, what it sends, and what it leaves in the payload buffer.
+-- From 01, "One visit and one reply": the first paragraph and the table of requests.
+use mathlib.Core.Path.{_≡_}
 use Prim.Native.Nat.{ℕ}
 use mathlib.Core.Bool.{Bool}
-use lib.Dec.{ltb, eqb}
-use Rattle.parts.specs.Parts.{pick}
+use mathlib.Core.List.{List, [], _++_}
+use lib.ListN.{length}
+use Rattle.parts.specs.Parts.{pick, inside, putIn, zeros}
 use Rattle.fdl.specs.Bits.{bitOf}
-use Rattle.fdl.specs.Sap.{serviceSap}
-use Rattle.fdl.specs.declared.consts.Service.{Service}
-use Rattle.fdl.specs.declared.consts.Service.the-variants.{MasterDataExchange, MasterMs0, SlaveDataExchange, SlaveDiagnosis, SlaveSetPrm, SlaveChkCfg}
-use Rattle.fdl.specs.declared.telegram.RequestType.{RequestType}
-use Rattle.fdl.specs.declared.telegram.RequestType.the-variants.{SrdLow, SrdHigh}
+use Rattle.fdl.specs.declared.parameters.Parameters.{Parameters as Unit}
 use Rattle.fdl.specs.declared.telegram.DataTelegramHeader.{DataTelegramHeader}
+use Rattle.telegrams.specs.declared.request.Request.{Request}
+use Rattle.telegrams.specs.declared.request.Request.the-variants.{Diagnosis, Parameters, Configuration, Data}
+use Rattle.telegrams.specs.Request.{headerOf}
+use Rattle.telegrams.specs.Payload.{paramHead}
+use Rattle.station.specs.declared.visit.Visited.{Visited}
+use Rattle.station.specs.declared.visit.Visited.the-variants.{Sent, Fell, Skipped}
+use Rattle.station.specs.Visit.{wishOf, visitedOf}
 use Rattle.peripheral.specs.declared.record.Peripheral.{Peripheral}
-use Rattle.peripheral.specs.declared.state.PeripheralState.{PeripheralState}
-use Rattle.peripheral.specs.declared.state.PeripheralState.the-variants.{Offline, WaitForParam, WaitForConfig, ValidateConfig, PreDataExchange, DataExchange}
-use Rattle.peripheral.specs.declared.state.Request.{Request}
-use Rattle.peripheral.specs.declared.state.Request.the-variants.{Diagnosis, Parameters, Configuration, Data}
-use Rattle.peripheral.specs.declared.visit.Visited.{Visited}
-use Rattle.peripheral.specs.declared.visit.Visited.the-variants.{Sent, Fell, Skipped}
-use Rattle.peripheral.specs.State.{stateOf}
-use Rattle.peripheral.specs.Record.{at, counting, oneMore}
+use Rattle.peripheral.specs.declared.visit.Happened.{Happened}
+use Rattle.peripheral.specs.declared.visit.Happened.the-variants.{Sent as HasSent, Offline as WentOffline, Skipped as WasSkipped}
+use Rattle.peripheral.specs.declared.visit.Visit.{Visit}
+use Rattle.peripheral.specs.Record.{stationIs, outputImage, userPart, configPart}
 
--- what a state asks for while the count is within the limit
-abbrev pub wishIn : PeripheralState → Peripheral → Visited
-wishIn Offline p = pick (eqb (p .«retry_count») 0) (Sent Diagnosis) Skipped
-wishIn WaitForParam p = pick (p .options .«has_user_parameters») (Sent Parameters) Skipped
-wishIn WaitForConfig p = pick (p .options .«has_config») (Sent Configuration) Skipped
-wishIn ValidateConfig p = Sent Diagnosis
-wishIn PreDataExchange p = pick (p .«diag_needed») (Sent Diagnosis) (Sent Data)
-wishIn DataExchange p = pick (p .«diag_needed») (Sent Diagnosis) (Sent Data)
-
--- the first line that applies: count above the limit, else what the state asks for
-unfoldable pub wishOf : ℕ → Peripheral → Visited
-wishOf limit p = pick (ltb limit (p .«retry_count»)) Fell (wishIn (stateOf (p .state)) p)
-
--- sending adds 1 to the count; Offline and a skip put it to 0
-abbrev pub visitedOf : Visited → Peripheral → Peripheral
-visitedOf (Sent k) p = counting (oneMore (p .«retry_count»)) p
-visitedOf Fell p = at Offline (counting 0 p)
-visitedOf Skipped p = counting 0 p
-
--- the table of requests: DSAP, SSAP, priority
-abbrev pub dsapOf : Request → Service
-dsapOf Diagnosis = SlaveDiagnosis
-dsapOf Parameters = SlaveSetPrm
-dsapOf Configuration = SlaveChkCfg
-dsapOf Data = SlaveDataExchange
-
-abbrev pub ssapOf : Request → Service
-ssapOf Diagnosis = MasterMs0
-ssapOf Parameters = MasterMs0
-ssapOf Configuration = MasterMs0
-ssapOf Data = MasterDataExchange
-
-abbrev pub priorityOf : Request → RequestType
-priorityOf Diagnosis = SrdLow
-priorityOf Parameters = SrdLow
-priorityOf Configuration = SrdLow
-priorityOf Data = SrdHigh
+-- what a visit does, by the balance's own set-up data
+abbrev pub wishesOf : ℕ → Peripheral → Visited
+wishesOf limit p = wishOf limit (p .options .«has_user_parameters») (p .options .«has_config») (p .station)
 
 -- the header of a request from the station own
-abbrev pub headerOf : Request → ℕ → Peripheral → DataTelegramHeader
-headerOf k own p =
-    record {
-      da = p .address;
-      sa = own;
-      dsap = serviceSap (dsapOf k);
-      ssap = serviceSap (ssapOf k);
-      fcb = bitOf (p .fcb);
-      req = priorityOf k;
-    }
+abbrev pub requestHeader : Request → ℕ → Peripheral → DataTelegramHeader
+requestHeader k own p = headerOf k (p .station .address) own (bitOf (p .station .fcb))
+
+-- diagnosis: empty; parameters: 7 bytes, then user parameters; configuration: as stored;
+-- data: the output image, zeros of that length in Clear
+unfoldable pub payloadOf : Request → Unit → Bool → Peripheral → List ℕ → List ℕ → List ℕ
+payloadOf Diagnosis u clear p setup outputs = []
+payloadOf Parameters u clear p setup outputs = paramHead u (p .options) ++ userPart p setup
+payloadOf Configuration u clear p setup outputs = configPart p setup
+payloadOf Data u clear p setup outputs = pick clear (zeros (length (outputImage p outputs))) (outputImage p outputs)
+
+-- what happened, and the buffer afterwards: a payload that is sent stands at its front
+abbrev pub happenedOf : Visited → Unit → Bool → Peripheral → List ℕ → List ℕ → List ℕ → Happened
+happenedOf (Sent k) u clear p setup outputs buf =
+    HasSent k (requestHeader k (u .address) p)
+    (pick (inside 0 (length (payloadOf k u clear p setup outputs)) buf) (length (payloadOf k u clear p setup outputs)) 0)
+happenedOf Fell u clear p setup outputs buf = WentOffline
+happenedOf Skipped u clear p setup outputs buf = WasSkipped
+
+abbrev pub bufferOf : Visited → Unit → Bool → Peripheral → List ℕ → List ℕ → List ℕ → List ℕ
+bufferOf (Sent k) u clear p setup outputs buf = putIn 0 (length (payloadOf k u clear p setup outputs)) (payloadOf k u clear p setup outputs) buf
+bufferOf Fell u clear p setup outputs buf = buf
+bufferOf Skipped u clear p setup outputs buf = buf
+
+pub record Transmitted (u : Unit) (clear : Bool) (p : Peripheral) (setup outputs buf out : List ℕ) (r : Visit) : Type 0 where
+  pub after : r .peripheral ≡ stationIs (visitedOf (wishesOf (u .«max_retry_limit») p) (p .station)) p
+  pub happened : r .what ≡ happenedOf (wishesOf (u .«max_retry_limit») p) u clear p setup outputs buf
+  pub bytes : out ≡ bufferOf (wishesOf (u .«max_retry_limit») p) u clear p setup outputs buf

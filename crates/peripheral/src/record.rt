@@ -1,11 +1,11 @@
 // The record of a peripheral, as newly added and after a reset, and what can be read off it.
 ghost use mathlib.Core.Path.{_≡_};
-ghost use mathlib.Core.Bool.{Bool, true};
-ghost use Prim.Native.Nat.{_<_};
-ghost use Rattle.parts.specs.Parts.{part};
-ghost use Rattle.peripheral.specs.Record.{noDiagnosis, newOf, resetOf, dueIs, isLive, isRunning, lastDiagnosis, lastExtended, inputImage, outputImage};
-use crate::options::PeripheralOptions;
-use crate::state::PeripheralState;
+ghost use mathlib.Core.Bool.{true};
+ghost use Rattle.station.specs.Record.{dueIs, isLive, isRunning, lastDiagnosis};
+ghost use Rattle.peripheral.specs.Record.{newOf, resetOf, stationIs, lastExtended, inputImage, outputImage};
+use station::record::Station;
+use telegrams::diagnosis::DiagnosticsInfo;
+use telegrams::options::PeripheralOptions;
 
 // Where the four ranges stand in their pools. The set-up range is as long as its user parameters and configuration.
 #[repr(C)]
@@ -19,85 +19,39 @@ pub struct Ranges {
     pub diag_room: u8,
 }
 
-// The last diagnosis; a master of 255 is none.
-#[repr(C)]
-pub struct DiagnosticsInfo {
-    pub flags: u16,
-    pub ident_number: u16,
-    pub master_address: u8,
-    pub held: bool,
-}
-
+// What visits and replies change, and what they do not: 12 bytes each, 36 in all.
 #[repr(C)]
 pub struct Peripheral {
-    pub address: u8,
-    pub state: u8,
-    pub retry_count: u8,
-    pub fcb: u8,
-    pub diag_needed: bool,
-    pub diag_len: u8,
-    pub diag: DiagnosticsInfo,
+    pub station: Station,
     pub ranges: Ranges,
     pub options: PeripheralOptions,
-}
-
-// An offset, widened where it is used.
-pub fn place(at: u16) -> usize
-    ensures { λ r. ⌜ (r ≡ at) × (r < 65536) ⌝ }
-{
-    at as usize
-}
-
-// A length, widened where it is used.
-pub fn size(len: u8) -> usize
-    ensures { λ r. ⌜ (r ≡ len) × (r < 256) ⌝ }
-{
-    len as usize
-}
-
-impl DiagnosticsInfo {
-    pub fn none() -> DiagnosticsInfo
-        ensures { λ r. ⌜ r ≡ noDiagnosis ⌝ }
-    {
-        DiagnosticsInfo {
-            flags: 0,
-            ident_number: 0,
-            master_address: 255,
-            held: false,
-        }
-    }
 }
 
 impl Peripheral {
     pub fn new(address: u8, options: PeripheralOptions, ranges: Ranges) -> Peripheral
         ensures { λ r. ⌜ r ≡ newOf address options ranges ⌝ }
     {
-        let diag = DiagnosticsInfo::none();
+        let station = Station::new(address);
         Peripheral {
-            address: address,
-            state: 0,
-            retry_count: 0,
-            fcb: 1,
-            diag_needed: false,
-            diag_len: 0,
-            diag: diag,
+            station: station,
             ranges: ranges,
             options: options,
         }
     }
 
+    // Set-up data and images stay; all else is as newly added.
     pub fn reset_address(self, address: u8) -> Peripheral
         ensures { λ r. ⌜ r ≡ resetOf self address ⌝ }
     {
-        let options = self.options;
-        let ranges = self.ranges;
-        Peripheral::new(address, options, ranges)
+        let mut p = self;
+        p.station = Station::new(address);
+        p
     }
 
     pub fn address(self) -> u8
-        ensures { λ r. ⌜ r ≡ self .address ⌝ }
+        ensures { λ r. ⌜ r ≡ self .station .address ⌝ }
     {
-        self.address
+        self.station.address
     }
 
     pub fn options(self) -> PeripheralOptions
@@ -108,64 +62,42 @@ impl Peripheral {
 
     // Whether it responds on the bus.
     pub fn is_live(self) -> bool
-        ensures { λ r. ⌜ r ≡ isLive self ⌝ }
+        ensures { λ r. ⌜ r ≡ isLive (self .station) ⌝ }
     {
-        let state = PeripheralState::of(self.state);
-        match state {
-            PeripheralState::Offline => false,
-            PeripheralState::WaitForParam => true,
-            PeripheralState::WaitForConfig => true,
-            PeripheralState::ValidateConfig => true,
-            PeripheralState::PreDataExchange => true,
-            PeripheralState::DataExchange => true,
-        }
+        self.station.is_live()
     }
 
     // Whether it exchanges data.
     pub fn is_running(self) -> bool
-        ensures { λ r. ⌜ r ≡ isRunning self ⌝ }
+        ensures { λ r. ⌜ r ≡ isRunning (self .station) ⌝ }
     {
-        let state = PeripheralState::of(self.state);
-        match state {
-            PeripheralState::Offline => false,
-            PeripheralState::WaitForParam => false,
-            PeripheralState::WaitForConfig => false,
-            PeripheralState::ValidateConfig => false,
-            PeripheralState::PreDataExchange => false,
-            PeripheralState::DataExchange => true,
-        }
+        self.station.is_running()
     }
 
     // A wish for a diagnosis.
     pub fn request_diagnostics(self) -> Peripheral
-        ensures { λ r. ⌜ r ≡ dueIs true self ⌝ }
+        ensures { λ r. ⌜ r ≡ stationIs (dueIs true (self .station)) self ⌝ }
     {
         let mut p = self;
-        p.diag_needed = true;
+        p.station = self.station.request_diagnostics();
         p
     }
 
     pub fn last_diagnostics(self) -> DiagnosticsInfo
-        ensures { λ r. ⌜ r ≡ lastDiagnosis self ⌝ }
+        ensures { λ r. ⌜ r ≡ lastDiagnosis (self .station) ⌝ }
     {
-        let diag = self.diag;
-        if diag.held {
-            diag
-        } else {
-            DiagnosticsInfo::none()
-        }
+        self.station.last_diagnostics()
     }
 
     // The extended part of the last diagnosis, itself.
     pub fn extended_diagnostics(self, diags: &[u8]) -> &[u8]
         ensures { λ r. ⌜ now r ≡ lastExtended self (now (diags .entry)) ⌝ }
     {
-        let diag = self.diag;
-        let at = place(self.ranges.diag);
-        if diag.held {
-            return parts::part(diags, at, size(self.diag_len));
-        }
-        parts::part(diags, at, 0)
+        parts::part(
+            diags,
+            parts::place(self.ranges.diag),
+            parts::size(self.station.stored_part()),
+        )
     }
 
     // The input image, itself.
@@ -174,8 +106,8 @@ impl Peripheral {
     {
         parts::part(
             inputs,
-            place(self.ranges.inputs),
-            size(self.ranges.input_len),
+            parts::place(self.ranges.inputs),
+            parts::size(self.ranges.input_len),
         )
     }
 
@@ -185,8 +117,8 @@ impl Peripheral {
     {
         parts::part(
             outputs,
-            place(self.ranges.outputs),
-            size(self.ranges.output_len),
+            parts::place(self.ranges.outputs),
+            parts::size(self.ranges.output_len),
         )
     }
 
@@ -196,8 +128,8 @@ impl Peripheral {
     {
         parts::part_mut(
             outputs,
-            place(self.ranges.outputs),
-            size(self.ranges.output_len),
+            parts::place(self.ranges.outputs),
+            parts::size(self.ranges.output_len),
         )
     }
 }

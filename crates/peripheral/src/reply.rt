@@ -1,200 +1,91 @@
-// The reply that answers a request, by the state in which it arrives.
+// The reply that answers a request.
 ghost use mathlib.Core.Path.{_≡_};
-ghost use mathlib.Core.Bool.{_&&_};
-ghost use lib.ListN.{length};
-ghost use Rattle.peripheral.specs.Record.{at, counting, cycling};
-ghost use Rattle.peripheral.specs.Diagnosis.{taken, tookOf};
-ghost use Rattle.peripheral.specs.Reply.{reports, foundOf, acknowledgedOf, isShort, byFlags, validatedOf, diagnosedOf, exchangedOf, statusReply, dataReply, exchangeOf, replyOf, isImage, carried, takes, ImageStored, Judged, Replied};
-use crate::diagnostics::Response;
+ghost use Rattle.peripheral.specs.Reply.{withHeard, Handled, ImageStored, Replied};
 use crate::record::Peripheral;
-use crate::record::place;
-use crate::record::size;
-use crate::state::PeripheralEvent;
-use crate::state::PeripheralState;
-use fdl::telegram::FrameCountBit;
-use fdl::telegram::ResponseStatus;
 use fdl::telegram::Telegram;
+use station::record::Station;
+use station::reply::Heard;
+use station::state::PeripheralEvent;
+use telegrams::diagnosis;
 
-// The record after a reply, and what is reported.
+// A reply that may be a diagnosis: whether it was taken, and the station then.
+pub struct Response {
+    pub taken: bool,
+    pub station: Station,
+}
+
+// The peripheral after a reply, and what is reported.
 pub struct Reply {
     pub peripheral: Peripheral,
     pub event: PeripheralEvent,
 }
 
-// A record in another state, with an event.
-fn moved(p: Peripheral, state: PeripheralState, event: PeripheralEvent) -> Reply
-    ensures { λ r. ⌜ r ≡ reports event (at state p) ⌝ }
-{
-    let mut q = p;
-    q.state = state.number();
-    Reply {
-        peripheral: q,
-        event: event,
-    }
-}
-
-// A record with nothing to report.
-fn quiet(p: Peripheral) -> Reply
-    ensures { λ r. ⌜ r ≡ reports PeripheralEvent.Nothing p ⌝ }
-{
-    Reply {
-        peripheral: p,
-        event: PeripheralEvent::Nothing,
-    }
-}
-
-// Offline: what may be the first diagnosis.
-fn found(h: Response, p: Peripheral) -> Reply
-    ensures { λ r. ⌜ r ≡ foundOf (h .taken) (h .peripheral) p ⌝ }
-{
-    if h.taken {
-        let mut q = h.peripheral;
-        q.retry_count = 0;
-        return moved(q, PeripheralState::WaitForParam, PeripheralEvent::Online);
-    }
-    quiet(p)
-}
-
-// WaitForParam, WaitForConfig: what may be an acknowledgement.
-fn acknowledged(p: Peripheral, telegram: Telegram, next: PeripheralState) -> Reply
-    ensures { λ r. ⌜ r ≡ acknowledgedOf (isShort telegram) next p ⌝ }
-{
-    match telegram {
-        Telegram::ShortConfirmation => {
-            let mut q = p;
-            q.fcb = FrameCountBit::of(p.fcb).cycle().number();
-            q.retry_count = 0;
-            moved(q, next, PeripheralEvent::Nothing)
-        }
-        Telegram::Data {
-            dsap: _,
-            ssap: _,
-            status: _,
-        } => quiet(p),
-        Telegram::Token => quiet(p),
-        Telegram::Request => quiet(p),
-    }
-}
-
-// ValidateConfig, with a diagnosis taken.
-fn by_flags(flags: u16, p: Peripheral) -> Reply
-    ensures { λ r. ⌜ r ≡ byFlags flags p ⌝ }
-{
-    if flags / 0x0040 % 2 == 1 {
-        return moved(p, PeripheralState::Offline, PeripheralEvent::ParameterError);
-    }
-    if flags / 0x0004 % 2 == 1 {
-        return moved(p, PeripheralState::Offline, PeripheralEvent::ConfigError);
-    }
-    if flags / 0x0100 % 2 == 1 {
-        return moved(p, PeripheralState::WaitForParam, PeripheralEvent::Nothing);
-    }
-    if flags / 0x0002 % 2 == 1 {
-        return quiet(p);
-    }
-    moved(
-        p,
-        PeripheralState::PreDataExchange,
-        PeripheralEvent::Configured,
-    )
-}
-
-// ValidateConfig: what may be the diagnosis that validates.
-fn validated(h: Response, p: Peripheral) -> Reply
-    ensures { λ r. ⌜ r ≡ validatedOf (h .taken) (h .peripheral) p ⌝ }
-{
-    if h.taken {
-        let mut q = h.peripheral;
-        q.retry_count = 0;
-        return by_flags(q.diag.flags, q);
-    }
-    let mut q = p;
-    q.retry_count = 0;
-    quiet(q)
-}
-
-// Exchange states with a diagnosis due: what may be that diagnosis.
-fn diagnosed(h: Response, p: Peripheral) -> Reply
-    ensures { λ r. ⌜ r ≡ diagnosedOf (h .taken) (h .peripheral) p ⌝ }
-{
-    if h.taken {
-        let mut q = h.peripheral;
-        q.diag_needed = false;
-        q.retry_count = 0;
-        return Reply {
-            peripheral: q,
-            event: PeripheralEvent::Diagnostics,
-        };
-    }
-    quiet(p)
-}
-
-// DataExchanged where the image was stored.
-fn exchanged(stored: bool, p: Peripheral) -> Reply
-    ensures { λ r. ⌜ r ≡ exchangedOf stored p ⌝ }
-{
-    if stored {
-        return moved(
-            p,
-            PeripheralState::DataExchange,
-            PeripheralEvent::DataExchanged,
-        );
-    }
-    quiet(p)
-}
-
-// The payload becomes the input image where it is as long.
-fn store_image(p: Peripheral, payload: &[u8], inputs: &mut [u8]) -> bool
-    ensures { λ r. ⌜ ImageStored p (now (payload .entry)) (now (inputs .entry)) (now (inputs .exit)) r ⌝ }
-{
-    let len = size(p.ranges.input_len);
-    if payload.len() == len {
-        return parts::copy_at(inputs, place(p.ranges.inputs), len, payload);
-    }
-    false
-}
-
-// Data, by its status.
-fn by_status(p: Peripheral, status: ResponseStatus, payload: &[u8], inputs: &mut [u8]) -> Reply
-    ensures { λ r. ⌜ Judged (statusReply status (isImage p (now (payload .entry)) (now (inputs .entry))) p) (now (payload .entry)) p (now (inputs .entry)) (now (inputs .exit)) r ⌝ }
-{
-    match status {
-        ResponseStatus::SapNotEnabled => moved(
-            p,
-            PeripheralState::ValidateConfig,
-            PeripheralEvent::Nothing,
-        ),
-        ResponseStatus::Ok => exchanged(store_image(p, payload, inputs), p),
-        ResponseStatus::DataLow => exchanged(store_image(p, payload, inputs), p),
-        ResponseStatus::DataHigh => exchanged(
-            store_image(p, payload, inputs),
-            p.request_diagnostics(),
-        ),
-        ResponseStatus::Other => quiet(p),
-        ResponseStatus::Unusable => quiet(p),
-    }
-}
-
-// Exchange states with no diagnosis due.
-fn data(p: Peripheral, telegram: Telegram, payload: &[u8], inputs: &mut [u8]) -> Reply
-    ensures { λ r. ⌜ Judged (dataReply telegram (isImage p (now (payload .entry)) (now (inputs .entry))) (counting 0 (cycling p))) (carried telegram (now (payload .entry))) p (now (inputs .entry)) (now (inputs .exit)) r ⌝ }
-{
-    let mut q = p;
-    q.fcb = FrameCountBit::of(p.fcb).cycle().number();
-    q.retry_count = 0;
-    match telegram {
-        Telegram::ShortConfirmation => exchanged(q.ranges.input_len == 0, q),
-        Telegram::Data {
-            dsap: _,
-            ssap: _,
-            status,
-        } => by_status(q, ResponseStatus::of(status), payload, inputs),
-        Telegram::Token => quiet(q),
-        Telegram::Request => quiet(q),
-    }
-}
-
 impl Peripheral {
+    // A reply that may be a diagnosis; its tail goes to the function that stores extended diagnosis.
+    pub fn handle_diagnostics_response(
+        self,
+        telegram: Telegram,
+        payload: &[u8],
+        diags: &mut [u8],
+    ) -> Response
+        ensures { λ r. ⌜ Handled telegram self (now (payload .entry)) (now (diags .entry)) (now (diags .exit)) r ⌝ }
+    {
+        let s = self.station;
+        if diagnosis::is_taken(telegram, payload.len()) {
+            let d = diagnosis::read_diagnosis(payload);
+            let flags = d.flags;
+            if flags / 0x0008 % 2 == 1 {
+                let at = parts::place(self.ranges.diag);
+                let stored = diagnosis::store_extended(
+                    diags,
+                    at,
+                    self.ranges.diag_room,
+                    s.diag_len,
+                    &payload[6..],
+                );
+                return Response {
+                    taken: true,
+                    station: s.took(d, stored),
+                };
+            }
+            return Response {
+                taken: true,
+                station: s.took(d, s.diag_len),
+            };
+        }
+        Response {
+            taken: false,
+            station: s,
+        }
+    }
+
+    // Data that is as long as the input image becomes the image.
+    fn store_image(self, telegram: Telegram, payload: &[u8], inputs: &mut [u8]) -> bool
+        ensures { λ r. ⌜ ImageStored telegram self (now (payload .entry)) (now (inputs .entry)) (now (inputs .exit)) r ⌝ }
+    {
+        let len = parts::size(self.ranges.input_len);
+        if telegram.has_data() {
+            if payload.len() == len {
+                return parts::copy_at(inputs, parts::place(self.ranges.inputs), len, payload);
+            }
+        }
+        false
+    }
+
+    // The record with what its station became.
+    fn with_heard(self, h: Heard) -> Reply
+        ensures { λ r. ⌜ r ≡ withHeard self h ⌝ }
+    {
+        let mut p = self;
+        let station = h.station;
+        let event = h.event;
+        p.station = station;
+        Reply {
+            peripheral: p,
+            event: event,
+        }
+    }
+
     // The reply to the open request, with the payload that came with it.
     pub fn receive_reply(
         self,
@@ -203,49 +94,19 @@ impl Peripheral {
         inputs: &mut [u8],
         diags: &mut [u8],
     ) -> Reply
-        ensures { λ r. ⌜ Replied (replyOf telegram self (now (payload .entry)) (now (inputs .entry)) (now (diags .entry))) (takes telegram self (length (now (payload .entry)))) telegram self (now (payload .entry)) (now (inputs .entry)) (now (diags .entry)) (now (inputs .exit)) (now (diags .exit)) r ⌝ }
+        ensures { λ r. ⌜ Replied telegram self (now (payload .entry)) (now (inputs .entry)) (now (diags .entry)) (now (inputs .exit)) (now (diags .exit)) r ⌝ }
     {
-        let state = PeripheralState::of(self.state);
-        match state {
-            PeripheralState::Offline => found(
-                self.handle_diagnostics_response(telegram, payload, diags),
-                self,
-            ),
-            PeripheralState::WaitForParam => acknowledged(
-                self,
-                telegram,
-                PeripheralState::WaitForConfig,
-            ),
-            PeripheralState::WaitForConfig => acknowledged(
-                self,
-                telegram,
-                PeripheralState::ValidateConfig,
-            ),
-            PeripheralState::ValidateConfig => validated(
-                self.handle_diagnostics_response(telegram, payload, diags),
-                self,
-            ),
-            PeripheralState::PreDataExchange => self.exchange(telegram, payload, inputs, diags),
-            PeripheralState::DataExchange => self.exchange(telegram, payload, inputs, diags),
+        let s = self.station;
+        let empty = self.ranges.input_len == 0;
+        if s.awaits_diagnosis() {
+            let h = self.handle_diagnostics_response(telegram, payload, diags);
+            let q = h.station;
+            return self.with_heard(s.heard(telegram, h.taken, q, empty, false));
         }
-    }
-
-    // Exchange states.
-    fn exchange(
-        self,
-        telegram: Telegram,
-        payload: &[u8],
-        inputs: &mut [u8],
-        diags: &mut [u8],
-    ) -> Reply
-        ensures { λ r. ⌜ Replied (exchangeOf (self .«diag_needed») telegram (taken telegram (length (now (payload .entry)))) (tookOf self (now (payload .entry)) (now (diags .entry))) self (now (payload .entry)) (now (inputs .entry))) (self .«diag_needed» && taken telegram (length (now (payload .entry)))) telegram self (now (payload .entry)) (now (inputs .entry)) (now (diags .entry)) (now (inputs .exit)) (now (diags .exit)) r ⌝ }
-    {
-        if self.diag_needed {
-            return diagnosed(
-                self.handle_diagnostics_response(telegram, payload, diags),
-                self,
-            );
+        if s.awaits_data() {
+            let stored = self.store_image(telegram, payload, inputs);
+            return self.with_heard(s.heard(telegram, false, s, empty, stored));
         }
-        data(self, telegram, payload, inputs)
+        self.with_heard(s.heard(telegram, false, s, empty, false))
     }
 }

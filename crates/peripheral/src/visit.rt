@@ -1,138 +1,133 @@
 // The visit that a turn makes to a peripheral.
 ghost use mathlib.Core.Path.{_≡_};
-ghost use mathlib.Core.Bool.{Bool};
-ghost use Rattle.parts.specs.Parts.{pick};
-ghost use Rattle.peripheral.specs.Record.{oneMore};
-ghost use Rattle.peripheral.specs.Visit.{wishOf, visitedOf, headerOf};
+ghost use Rattle.station.specs.Visit.{visitedOf};
+ghost use Rattle.telegrams.specs.Payload.{Written};
+ghost use Rattle.peripheral.specs.Record.{stationIs};
+ghost use Rattle.peripheral.specs.Visit.{wishesOf, requestHeader, payloadOf, Transmitted};
 use crate::record::Peripheral;
-use crate::state::PeripheralState;
-use crate::state::Request;
-use fdl::consts::Service;
+use fdl::parameters::Parameters;
 use fdl::telegram::DataTelegramHeader;
 use fdl::telegram::FrameCountBit;
-use fdl::telegram::RequestType;
+use station::visit::Visited;
+use telegrams::request::Request;
 
-// What a visit does: sends a request, reports the peripheral Offline, or nothing.
-pub enum Visited {
-    Sent(Request),
-    Fell,
+// What happened at a visit.
+pub enum Happened {
+    Sent {
+        kind: Request,
+        header: DataTelegramHeader,
+        len: usize,
+    },
+    Offline,
     Skipped,
 }
 
-// One more, which stays at 255.
-fn one_more(count: u8) -> u8
-    ensures { λ r. ⌜ r ≡ oneMore count ⌝ }
-{
-    if count < 255 { count + 1 } else { 255 }
-}
-
-// The request where there is something to send.
-fn sent_if(present: bool, kind: Request) -> Visited
-    ensures { λ r. ⌜ r ≡ pick present (Visited.Sent kind) Visited.Skipped ⌝ }
-{
-    if present {
-        Visited::Sent(kind)
-    } else {
-        Visited::Skipped
-    }
-}
-
-// In an exchange state: a diagnosis where one is due, else data.
-fn exchange(due: bool) -> Visited
-    ensures { λ r. ⌜ r ≡ pick due (Visited.Sent Request.Diagnosis) (Visited.Sent Request.Data) ⌝ }
-{
-    if due {
-        Visited::Sent(Request::Diagnosis)
-    } else {
-        Visited::Sent(Request::Data)
-    }
+// The peripheral after a visit, and what happened.
+pub struct Visit {
+    pub peripheral: Peripheral,
+    pub what: Happened,
 }
 
 impl Peripheral {
     // What this visit does.
     pub fn wish(self, limit: u8) -> Visited
-        ensures { λ r. ⌜ r ≡ wishOf limit self ⌝ }
+        ensures { λ r. ⌜ r ≡ wishesOf limit self ⌝ }
     {
-        if limit < self.retry_count {
-            return Visited::Fell;
-        }
-        let state = PeripheralState::of(self.state);
-        match state {
-            PeripheralState::Offline => sent_if(self.retry_count == 0, Request::Diagnosis),
-            PeripheralState::WaitForParam => sent_if(
-                self.options.has_user_parameters,
-                Request::Parameters,
-            ),
-            PeripheralState::WaitForConfig => sent_if(
-                self.options.has_config,
-                Request::Configuration,
-            ),
-            PeripheralState::ValidateConfig => Visited::Sent(Request::Diagnosis),
-            PeripheralState::PreDataExchange => exchange(self.diag_needed),
-            PeripheralState::DataExchange => exchange(self.diag_needed),
-        }
+        self.station.wish(
+            limit,
+            self.options.has_user_parameters,
+            self.options.has_config,
+        )
     }
 
-    // The record after that visit.
+    // The peripheral after that visit.
     pub fn visited(self, what: Visited) -> Peripheral
-        ensures { λ r. ⌜ r ≡ visitedOf what self ⌝ }
+        ensures { λ r. ⌜ r ≡ stationIs (visitedOf what (self .station)) self ⌝ }
     {
         let mut p = self;
-        match what {
-            Visited::Sent(_) => {
-                p.retry_count = one_more(self.retry_count);
-                p
-            }
-            Visited::Fell => {
-                p.state = 0;
-                p.retry_count = 0;
-                p
-            }
-            Visited::Skipped => {
-                p.retry_count = 0;
-                p
-            }
-        }
+        p.station = self.station.visited(what);
+        p
     }
 
     // The header of a request to it, from the station `own`.
     pub fn header(self, kind: Request, own: u8) -> DataTelegramHeader
-        ensures { λ r. ⌜ r ≡ headerOf kind own self ⌝ }
+        ensures { λ r. ⌜ r ≡ requestHeader kind own self ⌝ }
     {
-        let fcb = FrameCountBit::of(self.fcb);
-        let ms0 = Service::MasterMs0.sap();
+        kind.header(
+            self.station.address,
+            own,
+            FrameCountBit::of(self.station.fcb),
+        )
+    }
+
+    // The payload of a request at the front of `buf`; its length is answered, 0 where it does not fit.
+    pub fn write_payload(
+        self,
+        kind: Request,
+        u: Parameters,
+        clear: bool,
+        setup: &[u8],
+        outputs: &[u8],
+        buf: &mut [u8],
+    ) -> usize
+        ensures { λ r. ⌜ Written (payloadOf kind u clear self (now (setup .entry)) (now (outputs .entry))) (now (buf .entry)) (now (buf .exit)) r ⌝ }
+    {
+        let at = parts::place(self.ranges.setup);
+        let count = parts::size(self.options.user_parameters);
         match kind {
-            Request::Diagnosis => DataTelegramHeader {
-                da: self.address,
-                sa: own,
-                dsap: Service::SlaveDiagnosis.sap(),
-                ssap: ms0,
-                fcb: fcb,
-                req: RequestType::SrdLow,
+            Request::Diagnosis => telegrams::write::write_zeros(0, buf),
+            Request::Parameters => {
+                let user = parts::part(setup, at, count);
+                let options = self.options;
+                telegrams::write::write_parameters(u, options, user, buf)
+            }
+            Request::Configuration => {
+                let config = parts::part(setup, at + count, parts::size(self.options.config));
+                telegrams::write::write_bytes(config, buf)
+            }
+            Request::Data => {
+                let image = self.pi_q(outputs);
+                if clear {
+                    return telegrams::write::write_zeros(image.len(), buf);
+                }
+                telegrams::write::write_bytes(image, buf)
+            }
+        }
+    }
+
+    // The visit: what it does, the record afterwards, and the payload at the front of `buf`.
+    pub fn transmit_telegram(
+        self,
+        u: Parameters,
+        clear: bool,
+        setup: &[u8],
+        outputs: &[u8],
+        buf: &mut [u8],
+    ) -> Visit
+        ensures { λ r. ⌜ Transmitted u clear self (now (setup .entry)) (now (outputs .entry)) (now (buf .entry)) (now (buf .exit)) r ⌝ }
+    {
+        let what = self.wish(u.max_retry_limit);
+        let p = self.visited(what);
+        match what {
+            Visited::Sent(kind) => {
+                let header = self.header(kind, u.address);
+                let len = self.write_payload(kind, u, clear, setup, outputs, buf);
+                Visit {
+                    peripheral: p,
+                    what: Happened::Sent {
+                        kind: kind,
+                        header: header,
+                        len: len,
+                    },
+                }
+            }
+            Visited::Fell => Visit {
+                peripheral: p,
+                what: Happened::Offline,
             },
-            Request::Parameters => DataTelegramHeader {
-                da: self.address,
-                sa: own,
-                dsap: Service::SlaveSetPrm.sap(),
-                ssap: ms0,
-                fcb: fcb,
-                req: RequestType::SrdLow,
-            },
-            Request::Configuration => DataTelegramHeader {
-                da: self.address,
-                sa: own,
-                dsap: Service::SlaveChkCfg.sap(),
-                ssap: ms0,
-                fcb: fcb,
-                req: RequestType::SrdLow,
-            },
-            Request::Data => DataTelegramHeader {
-                da: self.address,
-                sa: own,
-                dsap: Service::SlaveDataExchange.sap(),
-                ssap: Service::MasterDataExchange.sap(),
-                fcb: fcb,
-                req: RequestType::SrdHigh,
+            Visited::Skipped => Visit {
+                peripheral: p,
+                what: Happened::Skipped,
             },
         }
     }

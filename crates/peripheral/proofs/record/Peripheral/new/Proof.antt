@@ -1,14 +1,14 @@
--- `new` meets its contract, by what `none` promises.
+-- `new` meets its contract, by what the station's `new` promises.
 use borrow.Author.Needs.{needs}
 use Rattle.peripheral.proofs.record.Peripheral.new.Statement.{statement}
 use Rattle.peripheral.proofs.record.Peripheral.new.Tie as tie
 
-none-requires : tie.Need-none-requires
-none-requires c κs = search needs
+new-requires : tie.Need-new-requires
+new-requires c κs = search needs
 
 returns : tie.Need-returns
 returns c =
-    rw (c .none .ensures)
+    rw (c .new .ensures)
 
 pub new-spec : {M : Type 1} → statement M
-new-spec = tie.close (tie.spec none-requires returns)
+new-spec = tie.close (tie.spec new-requires returns)

@@ -4,8 +4,9 @@ use mathlib.Core.List.{_++_}
 use lib.ListN.{length}
 use Prim.Native.Nat.{_+_, _-_, _/_}
 use Rattle.parts.specs.Parts.{zeros}
-use Rattle.peripheral.specs.Payload.{paramHead, payloadOf}
-use Rattle.peripheral.proofs.Facts.{written-as}
+use Rattle.telegrams.specs.Payload.{paramHead}
+use Rattle.peripheral.specs.Visit.{payloadOf}
+use Rattle.telegrams.proofs.Facts.{written-as}
 use borrow.Author.Needs.{needs}
 use Rattle.peripheral.proofs.record.Peripheral.write_payload.Statement.{statement}
 use Rattle.peripheral.proofs.record.Peripheral.write_payload.Tie as tie

@@ -1,0 +1,103 @@
+// The part of a peripheral's record that visits and replies change.
+ghost use mathlib.Core.Path.{_≡_};
+ghost use mathlib.Core.Bool.{true};
+ghost use Rattle.station.specs.Record.{newOf, dueIs, isLive, isRunning, lastDiagnosis, storedPart, tookOf};
+use crate::state::PeripheralState;
+use fdl::telegram::FrameCountBit;
+use telegrams::diagnosis::DiagnosticsInfo;
+
+// State and frame bit are numbers, so that a record can be stored to field by field.
+#[repr(C)]
+pub struct Station {
+    pub address: u8,
+    pub state: u8,
+    pub retry_count: u8,
+    pub fcb: u8,
+    pub diag_needed: bool,
+    pub diag_len: u8,
+    pub diag: DiagnosticsInfo,
+}
+
+impl Station {
+    pub fn new(address: u8) -> Station
+        ensures { λ r. ⌜ r ≡ newOf address ⌝ }
+    {
+        let diag = DiagnosticsInfo::none();
+        Station {
+            address: address,
+            state: 0,
+            retry_count: 0,
+            fcb: 1,
+            diag_needed: false,
+            diag_len: 0,
+            diag: diag,
+        }
+    }
+
+    // Whether it responds on the bus.
+    pub fn is_live(self) -> bool
+        ensures { λ r. ⌜ r ≡ isLive self ⌝ }
+    {
+        let state = PeripheralState::of(self.state);
+        match state {
+            PeripheralState::Offline => false,
+            PeripheralState::WaitForParam => true,
+            PeripheralState::WaitForConfig => true,
+            PeripheralState::ValidateConfig => true,
+            PeripheralState::PreDataExchange => true,
+            PeripheralState::DataExchange => true,
+        }
+    }
+
+    // Whether it exchanges data.
+    pub fn is_running(self) -> bool
+        ensures { λ r. ⌜ r ≡ isRunning self ⌝ }
+    {
+        let state = PeripheralState::of(self.state);
+        match state {
+            PeripheralState::Offline => false,
+            PeripheralState::WaitForParam => false,
+            PeripheralState::WaitForConfig => false,
+            PeripheralState::ValidateConfig => false,
+            PeripheralState::PreDataExchange => false,
+            PeripheralState::DataExchange => true,
+        }
+    }
+
+    // A wish for a diagnosis.
+    pub fn request_diagnostics(self) -> Station
+        ensures { λ r. ⌜ r ≡ dueIs true self ⌝ }
+    {
+        let mut s = self;
+        s.diag_needed = true;
+        s
+    }
+
+    pub fn last_diagnostics(self) -> DiagnosticsInfo
+        ensures { λ r. ⌜ r ≡ lastDiagnosis self ⌝ }
+    {
+        let diag = self.diag;
+        if diag.held {
+            return diag;
+        }
+        DiagnosticsInfo::none()
+    }
+
+    // How many bytes of the last diagnosis are stored.
+    pub fn stored_part(self) -> u8
+        ensures { λ r. ⌜ r ≡ storedPart self ⌝ }
+    {
+        if self.diag.held { self.diag_len } else { 0 }
+    }
+
+    // With a diagnosis taken, of which so many bytes are stored; taking cycles the frame bit.
+    pub fn took(self, diag: DiagnosticsInfo, stored: u8) -> Station
+        ensures { λ r. ⌜ r ≡ tookOf diag stored self ⌝ }
+    {
+        let mut s = self;
+        s.fcb = FrameCountBit::of(self.fcb).cycle().number();
+        s.diag_len = stored;
+        s.diag = diag;
+        s
+    }
+}
