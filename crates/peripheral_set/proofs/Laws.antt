@@ -1,0 +1,50 @@
+-- The laws of the search and of the listing, over any number of slots.
+-- The idea: a search looks at one slot and then goes on; what it passed had the other mark, and what it found has the wanted one.
+use mathlib.Core.Path.{_≡_, refl, sym, ap, _∙_}
+use mathlib.Core.Bool.{Bool, true, false, not, _&&_}
+use mathlib.Core.Logic.{_⊎_, inl, inr, ⊎-elim, by-cases}
+use mathlib.Core.List.{List, [], _∷_}
+use Prim.Native.Nat.{ℕ, zero, suc, _+_, _-_, _≤_, _<_}
+use native.Mathlib.Decide.{decLe}
+use native.Mathlib.Omega.{arith}
+use lib.ListN.{length, getD}
+use Rattle.parts.specs.Parts.{pick}
+use Rattle.parts.proofs.Laws.{by-test}
+use Rattle.peripheral_set.specs.Marks.{sameMark, searchFrom, listedFrom}
+
+module _ (none : ℕ) (want : Bool) (n : ℕ) (marks : List Bool) (i : ℕ) where
+  one-left : i < n → n - i ≡ suc (n - (i + 1))
+  one-left l = omega arith
+
+  pub search-step : i < n → searchFrom none want (n - i) marks i ≡ pick (sameMark want (getD marks i false)) i (searchFrom none want (n - (i + 1)) marks (i + 1))
+  unfolding searchFrom
+  search-step l = rw (one-left l) refl
+
+  pub search-here : i < n → sameMark want (getD marks i false) ≡ true → searchFrom none want (n - i) marks i ≡ i
+  search-here l e = search-step l ∙ rw e refl
+
+  pub search-on : i < n → sameMark want (getD marks i false) ≡ false → searchFrom none want (n - i) marks i ≡ searchFrom none want (n - (i + 1)) marks (i + 1)
+  search-on l e = search-step l ∙ rw e refl
+
+  pub search-none : n ≤ i → searchFrom none want (n - i) marks i ≡ none
+  unfolding searchFrom
+  search-none l = let z : n - i ≡ 0 = omega arith in rw z refl
+
+  pub listed-step : i < n → listedFrom (n - i) marks i ≡ pick (getD marks i false) (i ∷ listedFrom (n - (i + 1)) marks (i + 1)) (listedFrom (n - (i + 1)) marks (i + 1))
+  unfolding listedFrom
+  listed-step l = rw (one-left l) refl
+
+  pub listed-here : i < n → getD marks i false ≡ true → listedFrom (n - i) marks i ≡ i ∷ listedFrom (n - (i + 1)) marks (i + 1)
+  listed-here l e = listed-step l ∙ rw e refl
+
+  pub listed-on : i < n → getD marks i false ≡ false → listedFrom (n - i) marks i ≡ listedFrom (n - (i + 1)) marks (i + 1)
+  listed-on l e = listed-step l ∙ rw e refl
+
+  pub listed-none : n ≤ i → listedFrom (n - i) marks i ≡ []
+  unfolding listedFrom
+  listed-none l = let z : n - i ≡ 0 = omega arith in rw z refl
+
+-- an element behind the first
+pub second : (x : ℕ) (l : List ℕ) (k d : ℕ) → (k ≡ 0 → ⊥) → getD (x ∷ l) k d ≡ getD l (k - 1) d
+second x l zero d h = absurd (h refl)
+second x l (suc k) d h = let e : suc k - 1 ≡ k = omega arith in rw e refl

@@ -1,0 +1,26 @@
+-- `next_after` meets its contract: past the last slot there is none.
+use mathlib.Core.Path.{sym}
+use Prim.Native.Nat.{_+_, _-_}
+use native.Mathlib.Omega.{arith}
+use Rattle.peripheral_set.specs.Marks.{slots}
+use Rattle.peripheral_set.proofs.Laws.{search-none}
+use mathlib.Core.Bool.{true}
+use borrow.Author.Needs.{needs}
+use Rattle.peripheral_set.proofs.next_after.Statement.{statement}
+use Rattle.peripheral_set.proofs.next_after.Tie as tie
+
+returns : tie.Need-returns
+returns c =
+    sym (search-none slots true slots (c .before .args .marks) (c .before .args .place + 1) (omega arith))
+
+add-search : tie.Need-add-search
+add-search c = search needs
+
+search-requires : tie.Need-search-requires
+search-requires c κs = search needs
+
+returns-2 : tie.Need-returns-2
+returns-2 c = search needs
+
+pub next-after-spec : {M : Type 1} → statement M
+next-after-spec = tie.close (tie.spec returns add-search search-requires returns-2)

@@ -1,0 +1,126 @@
+// Which slots of the table are occupied: the first empty one, the next occupied one, and the listing.
+// Nothing above reads the marks, so that another way to find a slot changes nothing there.
+ghost use mathlib.Core.Path.{_≡_};
+ghost use mathlib.Core.Bool.{true, false};
+ghost use mathlib.Core.List.{List};
+ghost use lib.ListN.{length, getD};
+ghost use Prim.Native.Nat.{_-_};
+ghost use Rattle.peripheral_set.specs.Marks.{slots, sameMark, searchFrom, firstEmpty, atOrAfter, nextAfter, isOccupied, listed, handleRefusal};
+
+// The number of slots. The definitions say it again, as `slots`.
+pub const SLOTS: usize = 32;
+
+// A slot with the address at issue.
+#[repr(C)]
+pub struct PeripheralHandle {
+    pub slot: u8,
+    pub address: u8,
+}
+
+// One row of the listing.
+#[repr(C)]
+pub struct Entry {
+    pub slot: u8,
+    pub address: u8,
+    pub running: bool,
+}
+
+// Whether a mark is the wanted one.
+fn same(want: bool, mark: bool) -> bool
+    ensures { λ r. ⌜ r ≡ sameMark want mark ⌝ }
+{
+    if want { mark } else { !mark }
+}
+
+// The first slot from `from` on whose mark is `want`; SLOTS where there is none.
+fn search(marks: [bool; SLOTS], want: bool, from: usize) -> usize
+    ensures { λ r. ⌜ r ≡ searchFrom slots want (slots - from) marks from ⌝ }
+{
+    let mut i = from;
+    while i < SLOTS {
+        if same(want, marks[i]) {
+            return i;
+        }
+        i += 1;
+    }
+    SLOTS
+}
+
+// The first empty slot; SLOTS where all are occupied.
+pub fn first_empty(marks: [bool; SLOTS]) -> usize
+    ensures { λ r. ⌜ r ≡ firstEmpty marks ⌝ }
+{
+    search(marks, false, 0)
+}
+
+// The first occupied slot from `place` on; SLOTS where there is none.
+pub fn at_or_after(marks: [bool; SLOTS], place: usize) -> usize
+    ensures { λ r. ⌜ r ≡ atOrAfter marks place ⌝ }
+{
+    search(marks, true, place)
+}
+
+// The first occupied slot after `place`; SLOTS where there is none.
+pub fn next_after(marks: [bool; SLOTS], place: usize) -> usize
+    ensures { λ r. ⌜ r ≡ nextAfter marks place ⌝ }
+{
+    if SLOTS <= place {
+        return SLOTS;
+    }
+    search(marks, true, place + 1)
+}
+
+// Whether there is such a slot, and it is occupied.
+pub fn is_occupied(marks: [bool; SLOTS], slot: usize) -> bool
+    ensures { λ r. ⌜ r ≡ isOccupied marks slot ⌝ }
+{
+    if slot < SLOTS {
+        return marks[slot];
+    }
+    false
+}
+
+// How many slots are occupied.
+pub fn count(marks: [bool; SLOTS]) -> usize
+    ensures { λ r. ⌜ r ≡ length (listed marks) ⌝ }
+{
+    let mut n = 0;
+    let mut i = 0;
+    while i < SLOTS {
+        if marks[i] {
+            n += 1;
+        }
+        i += 1;
+    }
+    n
+}
+
+// The n-th occupied slot, counted from 0; SLOTS where there are not so many.
+pub fn nth(marks: [bool; SLOTS], n: usize) -> usize
+    ensures { λ r. ⌜ r ≡ getD (listed marks) n slots ⌝ }
+{
+    let mut left = n;
+    let mut i = 0;
+    while i < SLOTS {
+        if marks[i] {
+            if left == 0 {
+                return i;
+            }
+            left -= 1;
+        }
+        i += 1;
+    }
+    SLOTS
+}
+
+impl PeripheralHandle {
+    // 4 where the handle's slot is empty or there is none, else 0.
+    pub fn refusal(self, marks: [bool; SLOTS]) -> u8
+        ensures { λ r. ⌜ r ≡ handleRefusal self marks ⌝ }
+    {
+        if is_occupied(marks, parts::size(self.slot)) {
+            return 0;
+        }
+        4
+    }
+}
