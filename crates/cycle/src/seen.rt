@@ -1,0 +1,84 @@
+// What the visits of a turn have seen so far.
+ghost use mathlib.Core.Path.{_≡_};
+ghost use Rattle.cycle.specs.Seen.{bitAt, nothingSeen, seenBy, idle, nextIn};
+use peripheral_set::SLOTS;
+use station::visit::Visited;
+use telegrams::request::Request;
+
+// A bit for each slot.
+pub type Mask = u32;
+
+// What was sent to a slot.
+pub enum Sent {
+    Nothing,
+    To(u8, Request),
+}
+
+// The slots reported Offline, the first of them (255: none), and what was sent.
+pub struct Seen {
+    pub mask: Mask,
+    pub first: u8,
+    pub sent: Sent,
+}
+
+// The bit of a slot; none where there is no such slot.
+pub fn bit(slot: usize) -> Mask
+    ensures { λ r. ⌜ r ≡ bitAt slot ⌝ }
+{
+    if slot < SLOTS { (1 as Mask) << slot } else { 0 }
+}
+
+impl Seen {
+    pub fn new() -> Seen
+        ensures { λ r. ⌜ r ≡ nothingSeen ⌝ }
+    {
+        Seen {
+            mask: 0,
+            first: 255,
+            sent: Sent::Nothing,
+        }
+    }
+
+    // After the visit to a slot.
+    pub fn visited(self, slot: u8, what: Visited) -> Seen
+        ensures { λ r. ⌜ r ≡ seenBy slot what self ⌝ }
+    {
+        let mask = self.mask;
+        let first = self.first;
+        let sent = self.sent;
+        match what {
+            Visited::Sent(kind) => Seen {
+                mask: mask,
+                first: first,
+                sent: Sent::To(slot, kind),
+            },
+            Visited::Fell => {
+                let more = mask | bit(parts::size(slot));
+                if first == 255 {
+                    return Seen {
+                        mask: more,
+                        first: slot,
+                        sent: sent,
+                    };
+                }
+                Seen {
+                    mask: more,
+                    first: first,
+                    sent: sent,
+                }
+            }
+            Visited::Skipped => self,
+        }
+    }
+
+    // Where the visits go on: the next occupied slot after `slot`, or SLOTS once something was sent.
+    pub fn next(self, marks: [bool; SLOTS], slot: usize) -> usize
+        ensures { λ r. ⌜ r ≡ nextIn (self .sent) marks slot ⌝ }
+    {
+        let sent = self.sent;
+        match sent {
+            Sent::Nothing => peripheral_set::next_after(marks, slot),
+            Sent::To(_, _) => SLOTS,
+        }
+    }
+}

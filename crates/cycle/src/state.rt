@@ -1,0 +1,221 @@
+// The operating state, the cycle, and when the global control is due.
+ghost use mathlib.Core.Path.{_≡_};
+ghost use Prim.Native.Nat.{_-_, _<_};
+ghost use Rattle.cycle.specs.State.{operatingNumber, operatingOf, freshState, entered, dueOf, runningOf, stepOf, startOf, afterTurn, answered, closedFor};
+use crate::seen::Seen;
+use crate::seen::Sent;
+use peripheral_set::SLOTS;
+
+pub enum OperatingState {
+    Stop,
+    Clear,
+    Operate,
+}
+
+// What a turn does: nothing, the global control, the place taken back, or the visits.
+pub enum Step {
+    Stop,
+    Control,
+    Back,
+    Visits,
+}
+
+// Everything of the master that changes with each turn or reply. An open request has a kind that is not 0.
+#[repr(C)]
+pub struct DpMasterState {
+    pub last_turn: u64,
+    pub last_control: u64,
+    pub slot: u8,
+    pub completed: bool,
+    pub open_slot: u8,
+    pub open_kind: u8,
+    pub turned: bool,
+    pub controlled: bool,
+    pub operating: u8,
+}
+
+impl OperatingState {
+    pub fn number(self) -> u8
+        ensures { λ r. ⌜ r ≡ operatingNumber self ⌝ }
+    {
+        match self {
+            OperatingState::Stop => 0,
+            OperatingState::Clear => 1,
+            OperatingState::Operate => 2,
+        }
+    }
+
+    // The state of a number; a number that stands for none counts as Stop.
+    pub fn of(n: u8) -> OperatingState
+        ensures { λ r. ⌜ r ≡ operatingOf n ⌝ }
+    {
+        match n {
+            1 => OperatingState::Clear,
+            2 => OperatingState::Operate,
+            _ => OperatingState::Stop,
+        }
+    }
+}
+
+// How long ago; 0 where that lies ahead.
+fn since(now: u64, then: u64) -> u64
+    ensures { λ r. ⌜ r ≡ now - then ⌝ }
+{
+    if then <= now { now - then } else { 0 }
+}
+
+fn wide(x: u32) -> u64
+    ensures { λ r. ⌜ (r ≡ x) × (r < 4294967296) ⌝ }
+{
+    x as u64
+}
+
+impl DpMasterState {
+    // A fresh unit is in Stop, its place at the first slot, nothing open.
+    pub fn new() -> DpMasterState
+        ensures { λ r. ⌜ r ≡ freshState ⌝ }
+    {
+        DpMasterState {
+            last_turn: 0,
+            last_control: 0,
+            slot: 0,
+            completed: false,
+            open_slot: 0,
+            open_kind: 0,
+            turned: false,
+            controlled: false,
+            operating: 0,
+        }
+    }
+
+    // Setting a state counts, also where it is the same one.
+    pub fn enter(self, state: OperatingState) -> DpMasterState
+        ensures { λ r. ⌜ r ≡ entered state self ⌝ }
+    {
+        let mut s = self;
+        s.operating = state.number();
+        s.controlled = false;
+        s.last_control = 0;
+        s
+    }
+
+    // Whether the global control is due.
+    pub fn control_due(self, now: u64, high_prio_only: bool, slot_time: u32) -> bool
+        ensures { λ r. ⌜ r ≡ dueOf now «high_prio_only» «slot_time» self ⌝ }
+    {
+        if high_prio_only {
+            return false;
+        }
+        if self.controlled {
+            return 50 * wide(slot_time) <= since(now, self.last_control);
+        }
+        true
+    }
+
+    // What a turn does now.
+    pub fn step(self, now: u64, high_prio_only: bool, slot_time: u32) -> Step
+        ensures { λ r. ⌜ r ≡ stepOf (operatingOf (self .operating)) (dueOf now «high_prio_only» «slot_time» self) (self .completed) ⌝ }
+    {
+        let operating = OperatingState::of(self.operating);
+        let due = self.control_due(now, high_prio_only, slot_time);
+        match operating {
+            OperatingState::Stop => Step::Stop,
+            OperatingState::Clear => self.running(due),
+            OperatingState::Operate => self.running(due),
+        }
+    }
+
+    // Steps 2 to 4.
+    fn running(self, due: bool) -> Step
+        ensures { λ r. ⌜ r ≡ runningOf due (self .completed) ⌝ }
+    {
+        if due {
+            return Step::Control;
+        }
+        if self.completed {
+            return Step::Back;
+        }
+        Step::Visits
+    }
+
+    // The slot from which a turn visits; SLOTS where it visits none.
+    pub fn start(self, step: Step) -> usize
+        ensures { λ r. ⌜ r ≡ startOf step self ⌝ }
+    {
+        match step {
+            Step::Stop => SLOTS,
+            Step::Control => SLOTS,
+            Step::Back => SLOTS,
+            Step::Visits => parts::size(self.slot),
+        }
+    }
+
+    // After an accepted turn.
+    pub fn after_turn(self, step: Step, sent: Sent, now: u64) -> DpMasterState
+        ensures { λ r. ⌜ r ≡ afterTurn step sent now self ⌝ }
+    {
+        let mut s = self;
+        s.last_turn = now;
+        s.turned = true;
+        s.open_slot = 0;
+        s.open_kind = 0;
+        match step {
+            Step::Stop => s,
+            Step::Control => {
+                s.last_control = now;
+                s.controlled = true;
+                s
+            }
+            Step::Back => {
+                s.slot = 0;
+                s.completed = false;
+                s
+            }
+            Step::Visits => {
+                s.completed = false;
+                match sent {
+                    Sent::Nothing => {
+                        s.slot = 0;
+                        s
+                    }
+                    Sent::To(slot, kind) => {
+                        s.slot = slot;
+                        s.open_slot = slot;
+                        s.open_kind = kind.number();
+                        s
+                    }
+                }
+            }
+        }
+    }
+
+    // After an accepted reply, with the next occupied slot; SLOTS and above where there is none.
+    pub fn answered(self, next: usize) -> DpMasterState
+        ensures { λ r. ⌜ r ≡ answered next self ⌝ }
+    {
+        let mut s = self;
+        s.open_slot = 0;
+        s.open_kind = 0;
+        if next < SLOTS {
+            s.slot = next as u8;
+            s.completed = false;
+            return s;
+        }
+        s.slot = 0;
+        s.completed = true;
+        s
+    }
+
+    // With the request to that slot closed, where it is the open one.
+    pub fn closed_for(self, slot: u8) -> DpMasterState
+        ensures { λ r. ⌜ r ≡ closedFor slot self ⌝ }
+    {
+        if self.open_slot == slot {
+            let mut s = self;
+            s.open_slot = 0;
+            s.open_kind = 0;
+            return s;
+        }
+        self
+    }
+}
