@@ -35,3 +35,11 @@ idle (To slot k) = false
 abbrev pub nextIn : Sent → List Bool → ℕ → ℕ
 nextIn Nothing marks slot = nextAfter marks slot
 nextIn (To at k) marks slot = slots
+
+-- a slot number as an index; one that is no slot's counts as the first
+abbrev pub indexOf : ℕ → ℕ
+indexOf slot = pick (ltb slot slots) slot 0
+
+abbrev pub sentIndex : Sent → ℕ
+sentIndex Nothing = 0
+sentIndex (To slot k) = indexOf slot

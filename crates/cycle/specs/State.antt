@@ -23,6 +23,11 @@ operatingNumber Operate = 2
 abbrev pub operatingOf : ℕ → OperatingState
 operatingOf n = pick (eqb n 1) Clear (pick (eqb n 2) Operate Stop)
 
+abbrev pub isClear : OperatingState → Bool
+isClear Stop = false
+isClear Clear = true
+isClear Operate = false
+
 -- a fresh unit is in Stop, its place at the first slot, nothing open
 abbrev pub freshState : DpMasterState
 freshState =

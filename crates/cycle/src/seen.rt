@@ -1,6 +1,8 @@
 // What the visits of a turn have seen so far.
 ghost use mathlib.Core.Path.{_≡_};
-ghost use Rattle.cycle.specs.Seen.{bitAt, nothingSeen, seenBy, idle, nextIn};
+ghost use Prim.Native.Nat.{_<_};
+ghost use Rattle.peripheral_set.specs.Marks.{slots};
+ghost use Rattle.cycle.specs.Seen.{bitAt, nothingSeen, seenBy, idle, nextIn, indexOf, sentIndex};
 use peripheral_set::SLOTS;
 use station::visit::Visited;
 use telegrams::request::Request;
@@ -26,6 +28,26 @@ pub fn bit(slot: usize) -> Mask
     ensures { λ r. ⌜ r ≡ bitAt slot ⌝ }
 {
     if slot < SLOTS { (1 as Mask) << slot } else { 0 }
+}
+
+// A slot number as an index; one that is no slot's counts as the first.
+pub fn index(slot: u8) -> usize
+    ensures { λ r. ⌜ (r ≡ indexOf slot) × (r < slots) ⌝ }
+{
+    let i = parts::size(slot);
+    if i < SLOTS { i } else { 0 }
+}
+
+impl Sent {
+    // The slot that it was sent to, as an index.
+    pub fn index(self) -> usize
+        ensures { λ r. ⌜ (r ≡ sentIndex self) × (r < slots) ⌝ }
+    {
+        match self {
+            Sent::Nothing => 0,
+            Sent::To(slot, _) => index(slot),
+        }
+    }
 }
 
 impl Seen {

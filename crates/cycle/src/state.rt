@@ -1,7 +1,7 @@
 // The operating state, the cycle, and when the global control is due.
 ghost use mathlib.Core.Path.{_≡_};
 ghost use Prim.Native.Nat.{_-_, _<_};
-ghost use Rattle.cycle.specs.State.{operatingNumber, operatingOf, freshState, entered, dueOf, runningOf, stepOf, startOf, afterTurn, answered, closedFor};
+ghost use Rattle.cycle.specs.State.{operatingNumber, operatingOf, freshState, entered, isClear, dueOf, runningOf, stepOf, startOf, afterTurn, answered, closedFor};
 use crate::seen::Seen;
 use crate::seen::Sent;
 use peripheral_set::SLOTS;
@@ -97,6 +97,18 @@ impl DpMasterState {
         s.controlled = false;
         s.last_control = 0;
         s
+    }
+
+    // Whether outputs go out as zeros.
+    pub fn is_clear(self) -> bool
+        ensures { λ r. ⌜ r ≡ isClear (operatingOf (self .operating)) ⌝ }
+    {
+        let operating = OperatingState::of(self.operating);
+        match operating {
+            OperatingState::Stop => false,
+            OperatingState::Clear => true,
+            OperatingState::Operate => false,
+        }
     }
 
     // Whether the global control is due.

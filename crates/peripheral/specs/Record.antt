@@ -1,6 +1,7 @@
 -- The record of a balance: as newly added, after a reset, and its parts of the pools.
 -- From 01, "The unit and its sizes": adding, `reset_address`, images, the last diagnosis.
 use Prim.Native.Nat.{ℕ, _+_}
+use mathlib.Core.Bool.{false}
 use mathlib.Core.List.{List}
 use Rattle.parts.specs.Parts.{part}
 use Rattle.telegrams.specs.declared.options.PeripheralOptions.{PeripheralOptions}
@@ -8,6 +9,36 @@ use Rattle.station.specs.declared.record.Station.{Station}
 use Rattle.station.specs.Record.{newOf as newStation, storedPart}
 use Rattle.peripheral.specs.declared.record.Ranges.{Ranges}
 use Rattle.peripheral.specs.declared.record.Peripheral.{Peripheral}
+
+-- what an empty slot holds: zeros throughout
+abbrev pub blank : Peripheral
+blank =
+    record {
+      station =
+      record {
+        address = 0;
+        state = 0;
+        «retry_count» = 0;
+        fcb = 0;
+        «diag_needed» = false;
+        «diag_len» = 0;
+        diag = record { flags = 0; «ident_number» = 0; «master_address» = 0; held = false };
+      };
+      ranges = record { setup = 0; inputs = 0; outputs = 0; diag = 0; «input_len» = 0; «output_len» = 0; «diag_room» = 0 };
+      options =
+      record {
+        «ident_number» = 0;
+        «max_tsdr» = 0;
+        groups = 0;
+        «sync_mode» = false;
+        «freeze_mode» = false;
+        «fail_safe» = false;
+        «has_user_parameters» = false;
+        «user_parameters» = 0;
+        «has_config» = false;
+        config = 0;
+      };
+    }
 
 -- as newly added
 abbrev pub newOf : ℕ → PeripheralOptions → Ranges → Peripheral

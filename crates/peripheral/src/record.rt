@@ -2,7 +2,7 @@
 ghost use mathlib.Core.Path.{_≡_};
 ghost use mathlib.Core.Bool.{true};
 ghost use Rattle.station.specs.Record.{dueIs, isLive, isRunning, lastDiagnosis};
-ghost use Rattle.peripheral.specs.Record.{newOf, resetOf, stationIs, lastExtended, inputImage, outputImage};
+ghost use Rattle.peripheral.specs.Record.{blank, newOf, resetOf, stationIs, lastExtended, inputImage, outputImage};
 use station::record::Station;
 use telegrams::diagnosis::DiagnosticsInfo;
 use telegrams::options::PeripheralOptions;
@@ -28,6 +28,53 @@ pub struct Peripheral {
 }
 
 impl Peripheral {
+    // What an empty slot holds.
+    pub fn blank() -> Peripheral
+        ensures { λ r. ⌜ r ≡ blank ⌝ }
+    {
+        let diag = DiagnosticsInfo {
+            flags: 0,
+            ident_number: 0,
+            master_address: 0,
+            held: false,
+        };
+        let station = Station {
+            address: 0,
+            state: 0,
+            retry_count: 0,
+            fcb: 0,
+            diag_needed: false,
+            diag_len: 0,
+            diag: diag,
+        };
+        let ranges = Ranges {
+            setup: 0,
+            inputs: 0,
+            outputs: 0,
+            diag: 0,
+            input_len: 0,
+            output_len: 0,
+            diag_room: 0,
+        };
+        let options = PeripheralOptions {
+            ident_number: 0,
+            max_tsdr: 0,
+            groups: 0,
+            sync_mode: false,
+            freeze_mode: false,
+            fail_safe: false,
+            has_user_parameters: false,
+            user_parameters: 0,
+            has_config: false,
+            config: 0,
+        };
+        Peripheral {
+            station: station,
+            ranges: ranges,
+            options: options,
+        }
+    }
+
     pub fn new(address: u8, options: PeripheralOptions, ranges: Ranges) -> Peripheral
         ensures { λ r. ⌜ r ≡ newOf address options ranges ⌝ }
     {

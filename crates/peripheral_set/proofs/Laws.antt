@@ -44,6 +44,31 @@ module _ (none : ℕ) (want : Bool) (n : ℕ) (marks : List Bool) (i : ℕ) wher
   unfolding listedFrom
   listed-none l = let z : n - i ≡ 0 = omega arith in rw z refl
 
+-- ---- what a search answers, among k slots from i on
+
+module _ (none : ℕ) (want : Bool) (marks : List Bool) where
+  -- it is the first slot that has the wanted mark
+  pub search-found : (k i : ℕ) → searchFrom none want k marks i < none → sameMark want (getD marks (searchFrom none want k marks i) false) ≡ true
+  unfolding searchFrom
+  search-found zero i h = absurd (omega arith)
+  search-found (suc k) i h =
+      by-test (sameMark want (getD marks i false)) (λ e. rw e e)
+      (λ e. rw e (search-found k (i + 1) (rw e at h)))
+
+  pub search-from : (k i : ℕ) → i + k ≤ none → i ≤ searchFrom none want k marks i
+  unfolding searchFrom
+  search-from zero i h = omega arith
+  search-from (suc k) i h =
+      by-test (sameMark want (getD marks i false)) (λ e. rw e (omega arith))
+      (λ e. rw e (omega (arith, search-from k (i + 1) (omega arith))))
+
+  pub search-bound : (k i : ℕ) → i + k ≤ none → searchFrom none want k marks i ≤ none
+  unfolding searchFrom
+  search-bound zero i h = omega arith
+  search-bound (suc k) i h =
+      by-test (sameMark want (getD marks i false)) (λ e. rw e (omega arith))
+      (λ e. rw e (search-bound k (i + 1) (omega arith)))
+
 -- an element behind the first
 pub second : (x : ℕ) (l : List ℕ) (k d : ℕ) → (k ≡ 0 → ⊥) → getD (x ∷ l) k d ≡ getD l (k - 1) d
 second x l zero d h = absurd (h refl)

@@ -7,7 +7,7 @@ use Prim.Native.Nat.{ℕ, _+_, _-_, _≤_, _<_}
 use native.Mathlib.Omega.{arith}
 use lib.ListN.{length, take, drop, length-append}
 use lib.Dec.{leb, eqb}
-use borrow.Author.Tests.{le-leb, leb-true, leb-false, eq-eqb, ne-eqb}
+use borrow.Author.Tests.{lt-leb, leb-true, leb-false}
 use Rattle.parts.specs.Parts.{pick, inside, roomFor, putIn, Put}
 use Rattle.parts.proofs.Laws.{and-right, room-own, room-new, put-kept, inside-yes, inside-leb, length-put, lent-put, put-append}
 use Rattle.fdl.specs.declared.parameters.Parameters.{Parameters}
@@ -36,6 +36,15 @@ module _ (n : ℕ) (payload buf out : List ℕ) (fitted : Bool) (e : n ≡ lengt
 pub written-as : (a b buf out : List ℕ) (r : ℕ) → a ≡ b → Written a buf out r → Written b buf out r
 written-as a b buf out r e w = subst (λ (l : List ℕ). Written l buf out r) e w
 
+module _ (payload buf : List ℕ) where
+  pub put-written : (out : List ℕ) → length payload ≤ length buf → out ≡ putIn 0 (length payload) payload buf → Written payload buf out (length payload)
+  put-written out h e = record { len = rw (inside-yes 0 (length payload) buf (omega arith)) refl; bytes = e }
+
+  pub unwritten-short : length buf < length payload → Written payload buf buf 0
+  unwritten-short h =
+      let o : inside 0 (length payload) buf ≡ false = sym (inside-leb 0 (length payload) buf) ∙ lt-leb (0 + length payload) (length buf) (omega arith) in
+      record { len = rw o refl; bytes = sym (put-kept 0 (length payload) payload buf (room-own 0 payload buf ∙ o)) }
+
 pub head-length : (u : Parameters) (o : PeripheralOptions) → length (paramHead u o) ≡ 7
 unfolding paramHead
 head-length u o = refl
@@ -63,12 +72,7 @@ module _ (u : Parameters) (o : PeripheralOptions) (user buf : List ℕ) where
       }
 
   pub unbuilt : leb (7 + length user) (length buf) ≡ false → Written (paramHead u o ++ user) buf buf 0
-  unbuilt t =
-      let h : length buf < 7 + length user = leb-false _ _ t in
-      let n = payload-length in
-      let w : leb (0 + length (paramHead u o ++ user)) (length buf) ≡ leb (7 + length user) (length buf) = ap (λ (k : ℕ). leb k (length buf)) (omega arith) in
-      let out : inside 0 (length (paramHead u o ++ user)) buf ≡ false = sym (inside-leb 0 (length (paramHead u o ++ user)) buf) ∙ w ∙ t in
-      record { len = rw out refl; bytes = sym (put-kept 0 (length (paramHead u o ++ user)) (paramHead u o ++ user) buf (room-own 0 (paramHead u o ++ user) buf ∙ out)) }
+  unbuilt t = unwritten-short (paramHead u o ++ user) buf (omega (arith, payload-length, leb-false (7 + length user) (length buf) t))
 
 -- ---- the extended part in its room
 

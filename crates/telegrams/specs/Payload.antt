@@ -2,6 +2,7 @@
 -- From 01, "One visit and one reply", the paragraph on parameter bytes, and "Refusal numbers" on the payload buffer.
 use mathlib.Core.Path.{_≡_}
 use Prim.Native.Nat.{ℕ, _+_, _/_, _%_}
+use mathlib.Core.Bool.{Bool}
 use mathlib.Core.List.{List, [], _∷_}
 use lib.ListN.{length}
 use Rattle.parts.specs.Parts.{pick, inside, putIn}
@@ -19,6 +20,10 @@ paramHead u o =
     ∷ (o .«ident_number» % 256)
     ∷ o .groups
     ∷ []
+
+-- global control: 02 00 in Clear, 00 00 in Operate
+unfoldable pub controlPayload : Bool → List ℕ
+controlPayload clear = pick clear 0x02 0 ∷ 0 ∷ []
 
 -- the payload stands at the front of the buffer and its length is answered; or it does not fit, nothing is written, and the answer is 0
 pub record Written (payload buf out : List ℕ) (r : ℕ) : Type 0 where

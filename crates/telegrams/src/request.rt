@@ -1,6 +1,6 @@
 // The four requests, and the header of each.
 ghost use mathlib.Core.Path.{_≡_};
-ghost use Rattle.telegrams.specs.Request.{kindNumber, headerOf};
+ghost use Rattle.telegrams.specs.Request.{kindNumber, headerOf, controlHeader};
 use fdl::consts::Service;
 use fdl::telegram::DataTelegramHeader;
 use fdl::telegram::FrameCountBit;
@@ -11,6 +11,22 @@ pub enum Request {
     Parameters,
     Configuration,
     Data,
+}
+
+// The header of the global control, which goes to all.
+pub fn control_header(sa: u8) -> DataTelegramHeader
+    ensures { λ r. ⌜ r ≡ controlHeader sa ⌝ }
+{
+    let dsap = Service::SlaveGlobalControl.sap();
+    let ssap = Service::MasterMs0.sap();
+    DataTelegramHeader {
+        da: 0x7F,
+        sa: sa,
+        dsap: dsap,
+        ssap: ssap,
+        fcb: FrameCountBit::Inactive,
+        req: RequestType::SdnLow,
+    }
 }
 
 impl Request {

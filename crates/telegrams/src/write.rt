@@ -4,7 +4,7 @@ ghost use mathlib.Core.List.{_++_};
 ghost use Prim.Native.Nat.{_≤_};
 ghost use lib.ListN.{length};
 ghost use Rattle.parts.specs.Parts.{pick, putIn, zeros};
-ghost use Rattle.telegrams.specs.Payload.{paramHead, Written};
+ghost use Rattle.telegrams.specs.Payload.{paramHead, controlPayload, Written};
 use crate::options::PeripheralOptions;
 use fdl::parameters::Parameters;
 
@@ -65,4 +65,16 @@ pub fn write_zeros(count: usize, buf: &mut [u8]) -> usize
         return count;
     }
     0
+}
+
+// The payload of the global control: 0x02 in Clear, 0x00 in Operate; no group.
+pub fn write_control(clear: bool, buf: &mut [u8]) -> usize
+    ensures { λ r. ⌜ Written (controlPayload clear) (now (buf .entry)) (now (buf .exit)) r ⌝ }
+{
+    if buf.len() < 2 {
+        return 0;
+    }
+    buf[0] = bit_if(clear, 0x02);
+    buf[1] = 0x00;
+    2
 }

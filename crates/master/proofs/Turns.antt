@@ -1,0 +1,81 @@
+-- Creation, and a turn put together from its pieces or refused.
+-- The idea: the visits are named by what the loop left, and everything else cites them.
+use mathlib.Core.Path.{_≡_, refl, sym, ap, _∙_, subst}
+use mathlib.Core.Bool.{Bool, true, false}
+use mathlib.Core.List.{List, []}
+use native.Mathlib.Omega.{arith}
+use Prim.Native.Nat.{ℕ}
+use lib.Dec.{eqb}
+use lib.ListN.{length, getD}
+use borrow.Author.Tests.{eq-eqb, ne-eqb}
+use Rattle.parts.specs.Parts.{pick, inside}
+use Rattle.parts.proofs.Laws.{by-test, put-nothing}
+use Rattle.fdl.specs.declared.parameters.Parameters.{Parameters}
+use Rattle.fdl.specs.Params.{inRange, creationRefusal, held, lowest}
+use Rattle.telegrams.specs.Payload.{Written}
+use Rattle.peripheral.specs.declared.record.Peripheral.{Peripheral}
+use Rattle.peripheral.specs.Record.{blank}
+use Rattle.cycle.specs.declared.seen.Seen.{Seen}
+use Rattle.cycle.specs.declared.seen.Sent.{Sent}
+use Rattle.cycle.specs.declared.state.Step.{Step}
+use Rattle.cycle.specs.Seen.{sentIndex}
+use Rattle.cycle.specs.State.{operatingOf, isClear, afterTurn}
+use Rattle.master.specs.declared.unit.DpMaster.{DpMaster}
+use Rattle.master.specs.declared.turn.Filled.{Filled}
+use Rattle.master.specs.declared.turn.Turn.{Turn}
+use Rattle.master.specs.declared.turn.Transmission.the-variants.{Nothing as NothingSent}
+use Rattle.master.specs.Unit.{emptyUnit, createdOf, stateIs, balancesAre, balanceAt}
+use Rattle.master.specs.Turn.{Swept, transmissionOf, payloadSent, Filling, answerOf, refusedTurn, turnPayload, turnAnswer, Turns}
+
+-- ---- creation
+
+module _ (u : Parameters) where
+  in-range : (b : Bool) → _≡_ {A = ℕ} (pick b 0 1) 0 → b ≡ true
+  in-range true e = refl
+  in-range false e = absurd (omega arith)
+
+  out-of-range : (b : Bool) → (_≡_ {A = ℕ} (pick b 0 1) 0 → ⊥) → b ≡ false
+  out-of-range true h = absurd (h refl)
+  out-of-range false h = refl
+
+  pub created : (m : DpMaster) → creationRefusal u ≡ 0 → m ≡ emptyUnit (held u) → record { refusal = 0; master = m } ≡ createdOf u
+  unfolding createdOf
+  created m z e = rw (in-range (inRange u) z) (rw e refl)
+
+  pub uncreated : (n : ℕ) (m : DpMaster) → n ≡ creationRefusal u → (n ≡ 0 → ⊥) → m ≡ emptyUnit lowest → record { refusal = n; master = m } ≡ createdOf u
+  unfolding createdOf
+  uncreated n m en h e =
+      let o = out-of-range (inRange u) (λ z. h (en ∙ z)) in
+      let one : n ≡ 1 = en ∙ rw o refl in
+      rw (o, one, e) refl
+
+-- ---- what is sent
+
+pub nothing-filled : (step : Step) (sent : Sent) (p : Peripheral) (u : Parameters) (buf : List ℕ) (r : Filled) → transmissionOf step sent p u ≡ NothingSent
+    → r ≡ record { len = 0; transmission = NothingSent } → Filling step sent p u [] buf buf r
+nothing-filled step sent p u buf r t e =
+    record { answer = e ∙ rw t (by-test (inside 0 0 buf) (λ i. rw i refl) (λ i. rw i refl)); bytes = sym (put-nothing 0 buf) }
+
+pub filled-by : (step : Step) (sent : Sent) (p : Peripheral) (u : Parameters) (payload buf out : List ℕ) (len : ℕ) (r : Filled) → Written payload buf out len
+    → r ≡ record { len = len; transmission = transmissionOf step sent p u } → Filling step sent p u payload buf out r
+filled-by step sent p u payload buf out len r w e = record { answer = e ∙ rw (w .len) refl; bytes = w .bytes }
+
+module _ (n : ℕ) (step : Step) (w : Swept) (m : DpMaster) (time : ℕ) (setup outputs buf : List ℕ) where
+  pub turn-refused : (r : Turn) → (n ≡ 0 → ⊥) → r .master ≡ m → r .answer ≡ refusedTurn n → Turns n step w (turnPayload step w m setup outputs) m time buf buf r
+  turn-refused r h em ea = let e = ne-eqb n 0 h in record { after = rw e em; answer = rw e ea; bytes = rw e refl }
+
+  module _ (seen : Seen) (ps : List Peripheral) where
+    asked : Peripheral
+    asked = getD ps (sentIndex (seen .sent)) blank
+
+    pub turn-accepted : (filled : Filled) (out : List ℕ) (r : Turn) → n ≡ 0 → w ≡ record { seen = seen; balances = ps }
+        → r .master ≡ stateIs (afterTurn step (seen .sent) time (m .state)) (balancesAre ps m)
+        → Filling step (seen .sent) (getD ps (sentIndex (seen .sent)) blank) (m .parameters)
+        (payloadSent step (seen .sent) (getD ps (sentIndex (seen .sent)) blank) (m .parameters) (isClear (operatingOf (m .state .operating))) setup outputs) buf out filled
+        → r .answer ≡ answerOf step seen (balanceAt ps (seen .first) .station .address) filled
+        → Turns n step w (turnPayload step w m setup outputs) m time buf out r
+    unfolding turnPayload turnAnswer
+    turn-accepted filled out r z ew em f ea =
+        let e = eq-eqb n 0 z in
+        subst (λ (x : Swept). Turns n step x (turnPayload step x m setup outputs) m time buf out r) (sym ew)
+        (record { after = rw e em; answer = rw e (ea ∙ ap (answerOf step seen (balanceAt ps (seen .first) .station .address)) (f .answer)); bytes = rw e (f .bytes) })

@@ -1,0 +1,3 @@
+pub mod Unit
+pub mod Turn
+pub mod Reply

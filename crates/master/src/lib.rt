@@ -1,0 +1,4 @@
+// The DP master: one record by value over lent pools.
+pub mod reply;
+pub mod turn;
+pub mod unit;
