@@ -1,3 +1,4 @@
 pub mod Sweep
 pub mod Turns
 pub mod Replies
+pub mod Adds

@@ -1,3 +1,4 @@
 pub mod Unit
+pub mod Add
 pub mod Turn
 pub mod Reply

@@ -1,4 +1,5 @@
 // The DP master: one record by value over lent pools.
+pub mod add;
 pub mod reply;
 pub mod turn;
 pub mod unit;
