@@ -13,7 +13,8 @@ use Rattle.peripheral.specs.declared.reply.Reply.{Reply}
 use Rattle.peripheral.specs.Reply.{Replied}
 use Rattle.master.specs.declared.unit.DpMaster.{DpMaster}
 use Rattle.master.specs.declared.reply.Answered.{Answered}
-use Rattle.master.specs.Reply.{openBalance, replyAt, refusedReply, replyAnswer, unitReplied, Replies}
+use Rattle.answers.specs.Reply.{refusedReply}
+use Rattle.master.specs.Reply.{openBalance, replyAt, replyAnswer, unitReplied, Replies}
 
 module _ (n : ℕ) (t : Telegram) (m : DpMaster) (payload inputs diags : List ℕ) where
   pub reply-refused : (is : Reply) (r : Answered) → (n ≡ 0 → ⊥) → r .master ≡ m → r .answer ≡ refusedReply n → Replies n is t m payload inputs diags inputs diags r

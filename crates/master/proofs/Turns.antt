@@ -2,30 +2,27 @@
 -- The idea: the visits are named by what the loop left, and everything else cites them.
 use mathlib.Core.Path.{_≡_, refl, sym, ap, _∙_, subst}
 use mathlib.Core.Bool.{Bool, true, false}
-use mathlib.Core.List.{List, []}
+use mathlib.Core.List.{List}
 use native.Mathlib.Omega.{arith}
 use Prim.Native.Nat.{ℕ}
 use lib.Dec.{eqb}
 use lib.ListN.{length, getD}
 use borrow.Author.Tests.{eq-eqb, ne-eqb}
-use Rattle.parts.specs.Parts.{pick, inside}
-use Rattle.parts.proofs.Laws.{by-test, put-nothing}
+use Rattle.parts.specs.Parts.{pick}
 use Rattle.fdl.specs.declared.parameters.Parameters.{Parameters}
 use Rattle.fdl.specs.Params.{inRange, creationRefusal, held, lowest}
-use Rattle.telegrams.specs.Payload.{Written}
 use Rattle.peripheral.specs.declared.record.Peripheral.{Peripheral}
 use Rattle.peripheral.specs.Record.{blank}
 use Rattle.cycle.specs.declared.seen.Seen.{Seen}
-use Rattle.cycle.specs.declared.seen.Sent.{Sent}
 use Rattle.cycle.specs.declared.state.Step.{Step}
 use Rattle.cycle.specs.Seen.{sentIndex}
 use Rattle.cycle.specs.State.{operatingOf, isClear, afterTurn}
 use Rattle.master.specs.declared.unit.DpMaster.{DpMaster}
-use Rattle.master.specs.declared.turn.Filled.{Filled}
+use Rattle.answers.specs.declared.turn.Filled.{Filled}
 use Rattle.master.specs.declared.turn.Turn.{Turn}
-use Rattle.master.specs.declared.turn.Transmission.the-variants.{Nothing as NothingSent}
 use Rattle.master.specs.Unit.{emptyUnit, createdOf, stateIs, balancesAre, balanceAt}
-use Rattle.master.specs.Turn.{Swept, transmissionOf, payloadSent, Filling, answerOf, refusedTurn, turnPayload, turnAnswer, Turns}
+use Rattle.answers.specs.Turn.{payloadSent, Filling, answerOf, refusedTurn}
+use Rattle.master.specs.Turn.{Swept, turnPayload, turnAnswer, Turns}
 
 -- ---- creation
 
@@ -49,16 +46,7 @@ module _ (u : Parameters) where
       let one : n ≡ 1 = en ∙ rw o refl in
       rw (o, one, e) refl
 
--- ---- what is sent
-
-pub nothing-filled : (step : Step) (sent : Sent) (p : Peripheral) (u : Parameters) (buf : List ℕ) (r : Filled) → transmissionOf step sent p u ≡ NothingSent
-    → r ≡ record { len = 0; transmission = NothingSent } → Filling step sent p u [] buf buf r
-nothing-filled step sent p u buf r t e =
-    record { answer = e ∙ rw t (by-test (inside 0 0 buf) (λ i. rw i refl) (λ i. rw i refl)); bytes = sym (put-nothing 0 buf) }
-
-pub filled-by : (step : Step) (sent : Sent) (p : Peripheral) (u : Parameters) (payload buf out : List ℕ) (len : ℕ) (r : Filled) → Written payload buf out len
-    → r ≡ record { len = len; transmission = transmissionOf step sent p u } → Filling step sent p u payload buf out r
-filled-by step sent p u payload buf out len r w e = record { answer = e ∙ rw (w .len) refl; bytes = w .bytes }
+-- ---- the turn
 
 module _ (n : ℕ) (step : Step) (w : Swept) (m : DpMaster) (time : ℕ) (setup outputs buf : List ℕ) where
   pub turn-refused : (r : Turn) → (n ≡ 0 → ⊥) → r .master ≡ m → r .answer ≡ refusedTurn n → Turns n step w (turnPayload step w m setup outputs) m time buf buf r

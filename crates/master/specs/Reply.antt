@@ -2,25 +2,22 @@
 -- From 01, "One visit and one reply", its last line, with the refusals of "Refusal numbers".
 use mathlib.Core.Path.{_≡_}
 use Prim.Native.Nat.{ℕ}
-use mathlib.Core.Bool.{Bool, true, false}
 use mathlib.Core.List.{List}
 use lib.ListN.{length, set}
 use lib.Dec.{eqb, leb}
 use Rattle.parts.specs.Parts.{pick}
 use Rattle.fdl.specs.Reply.{carried}
 use Rattle.fdl.specs.declared.telegram.Telegram.{Telegram}
-use Rattle.station.specs.declared.state.PeripheralEvent.{PeripheralEvent}
-use Rattle.station.specs.declared.state.PeripheralEvent.the-variants.{Nothing as NoEvent, Online, Configured, ConfigError, ParameterError, DataExchanged, Diagnostics, Offline as WentOffline}
 use Rattle.peripheral.specs.declared.record.Peripheral.{Peripheral}
 use Rattle.peripheral.specs.declared.reply.Reply.{Reply}
 use Rattle.peripheral.specs.Reply.{withHeard, hearsOf, takes, inputsOf, diagsOf}
-use Rattle.peripheral_set.specs.declared.PeripheralHandle.{PeripheralHandle}
 use Rattle.peripheral_set.specs.Marks.{slots, nextAfter}
 use Rattle.cycle.specs.Seen.{indexOf}
 use Rattle.cycle.specs.State.{answered}
 use Rattle.cycle.specs.Refusal.{replyRefusal}
 use Rattle.master.specs.declared.unit.DpMaster.{DpMaster}
-use Rattle.master.specs.declared.reply.ReplyAnswer.{ReplyAnswer}
+use Rattle.answers.specs.declared.reply.ReplyAnswer.{ReplyAnswer}
+use Rattle.answers.specs.Reply.{eventHandle, refusedReply}
 use Rattle.master.specs.declared.reply.Answered.{Answered}
 use Rattle.master.specs.Unit.{stateIs, balancesAre, balanceAt}
 
@@ -32,23 +29,9 @@ openBalance m = balanceAt (m .peripherals) (m .state .«open_slot»)
 unfoldable pub replyAt : Telegram → DpMaster → List ℕ → List ℕ → List ℕ → Reply
 replyAt t m payload inputs diags = withHeard (openBalance m) (hearsOf t (openBalance m) payload inputs diags)
 
--- no event is no slot and no address
-abbrev pub eventHandle : PeripheralEvent → ℕ → ℕ → PeripheralHandle
-eventHandle NoEvent slot address = record { slot = 255; address = 255 }
-eventHandle Online slot address = record { slot = slot; address = address }
-eventHandle Configured slot address = record { slot = slot; address = address }
-eventHandle ConfigError slot address = record { slot = slot; address = address }
-eventHandle ParameterError slot address = record { slot = slot; address = address }
-eventHandle DataExchanged slot address = record { slot = slot; address = address }
-eventHandle Diagnostics slot address = record { slot = slot; address = address }
-eventHandle WentOffline slot address = record { slot = slot; address = address }
-
 -- the next occupied slot after the one that was asked
 abbrev pub nextSlot : DpMaster → ℕ
 nextSlot m = nextAfter (m .occupied) (indexOf (m .state .«open_slot»))
-
-abbrev pub refusedReply : ℕ → ReplyAnswer
-refusedReply n = record { refusal = n; «cycle_completed» = false; event = NoEvent; handle = record { slot = 255; address = 255 } }
 
 -- with no next slot, cycle-completed is true
 abbrev pub replyAnswer : DpMaster → Reply → ReplyAnswer

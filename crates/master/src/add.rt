@@ -101,7 +101,16 @@ fn store_setup(setup: &mut [u8], at: u16, user: &[u8], config: &[u8])
 }
 
 impl DpMaster {
-    pub fn add(self, a: Addition, user: &[u8], config: &[u8], setup: &mut [u8], inputs: &mut [u8], outputs: &mut [u8], diags: &mut [u8]) -> Added
+    pub fn add(
+        self,
+        a: Addition,
+        user: &[u8],
+        config: &[u8],
+        setup: &mut [u8],
+        inputs: &mut [u8],
+        outputs: &mut [u8],
+        diags: &mut [u8],
+    ) -> Added
         ensures { λ r. ⌜ Adding self a (now (user .entry)) (now (config .entry)) (now (setup .entry)) (now (inputs .entry)) (now (outputs .entry)) (now (diags .entry)) (now (setup .exit)) (now (inputs .exit)) (now (outputs .exit)) (now (diags .exit)) r ⌝ }
     {
         let u = self.parameters;

@@ -1,178 +1,36 @@
 // One turn.
-ghost use mathlib.Core.Path.{_≡_};
-ghost use Rattle.master.specs.Turn.{payloadSent, handleOf, fellEvent, completesOf, refusedTurn, answerOf, Filling, Turned};
+ghost use Rattle.master.specs.Turn.{Turned};
 use crate::unit::DpMaster;
-use cycle::seen::Mask;
+use answers::turn::TurnAnswer;
 use cycle::seen::Seen;
-use cycle::seen::Sent;
-use cycle::state::Step;
-use fdl::parameters::Parameters;
-use fdl::telegram::DataTelegramHeader;
-use peripheral::record::Peripheral;
-use peripheral_set::PeripheralHandle;
 use peripheral_set::SLOTS;
-use station::state::PeripheralEvent;
-use telegrams::request::Request;
-
-// What a turn sent.
-pub enum Transmission {
-    Nothing,
-    Control(DataTelegramHeader),
-    Request {
-        slot: u8,
-        kind: Request,
-        header: DataTelegramHeader,
-    },
-}
-
-// What was sent, and how long its payload is.
-pub struct Filled {
-    pub len: usize,
-    pub transmission: Transmission,
-}
-
-// The answer of a turn: the first Offline event with its handle, and a bit for every slot reported Offline.
-pub struct TurnAnswer {
-    pub refusal: u8,
-    pub cycle_completed: bool,
-    pub offline: Mask,
-    pub event: PeripheralEvent,
-    pub handle: PeripheralHandle,
-    pub len: usize,
-    pub transmission: Transmission,
-}
 
 pub struct Turn {
     pub master: DpMaster,
     pub answer: TurnAnswer,
 }
 
-// Something was sent to no balance.
-fn quiet(len: usize, transmission: Transmission) -> Filled
-    ensures { λ r. ⌜ r ≡ (record { len = len; transmission = transmission }) ⌝ }
-{
-    Filled {
-        len: len,
-        transmission: transmission,
-    }
-}
-
-// Puts the payload of what is sent at the front of `buf`; `p` is the balance that it goes to.
-fn fill(step: Step, sent: Sent, p: Peripheral, u: Parameters, clear: bool, setup: &[u8], outputs: &[u8], buf: &mut [u8]) -> Filled
-    ensures { λ r. ⌜ Filling step sent p u (payloadSent step sent p u clear (now (setup .entry)) (now (outputs .entry))) (now (buf .entry)) (now (buf .exit)) r ⌝ }
-{
-    match step {
-        Step::Stop => quiet(0, Transmission::Nothing),
-        Step::Back => quiet(0, Transmission::Nothing),
-        Step::Control => {
-            let len = telegrams::write::write_control(clear, buf);
-            let header = telegrams::request::control_header(u.address);
-            quiet(len, Transmission::Control(header))
-        }
-        Step::Visits => match sent {
-            Sent::Nothing => quiet(0, Transmission::Nothing),
-            Sent::To(slot, kind) => {
-                let header = p.header(kind, u.address);
-                let len = p.write_payload(kind, u, clear, setup, outputs, buf);
-                quiet(
-                    len,
-                    Transmission::Request {
-                        slot: slot,
-                        kind: kind,
-                        header: header,
-                    },
-                )
-            }
-        },
-    }
-}
-
-// The handle of the first balance that fell; no slot and no address where none did.
-fn handle_of(first: u8, address: u8) -> PeripheralHandle
-    ensures { λ r. ⌜ r ≡ handleOf first address ⌝ }
-{
-    if first == 255 {
-        return PeripheralHandle {
-            slot: 255,
-            address: 255,
-        };
-    }
-    PeripheralHandle {
-        slot: first,
-        address: address,
-    }
-}
-
-impl TurnAnswer {
-    fn refused(refusal: u8) -> TurnAnswer
-        ensures { λ r. ⌜ r ≡ refusedTurn refusal ⌝ }
-    {
-        let handle = handle_of(255, 255);
-        TurnAnswer {
-            refusal: refusal,
-            cycle_completed: false,
-            offline: 0,
-            event: PeripheralEvent::Nothing,
-            handle: handle,
-            len: 0,
-            transmission: Transmission::Nothing,
-        }
-    }
-
-    // `address` is that of the first balance that fell.
-    fn of(step: Step, seen: Seen, address: u8, filled: Filled) -> TurnAnswer
-        ensures { λ r. ⌜ r ≡ answerOf step seen address filled ⌝ }
-    {
-        let len = filled.len;
-        let transmission = filled.transmission;
-        let event = fell(seen.first);
-        let handle = handle_of(seen.first, address);
-        let sent = seen.sent;
-        let completed = completes(step, sent);
-        TurnAnswer {
-            refusal: 0,
-            cycle_completed: completed,
-            offline: seen.mask,
-            event: event,
-            handle: handle,
-            len: len,
-            transmission: transmission,
-        }
-    }
-}
-
-// The event of a turn: Offline where a balance fell.
-fn fell(first: u8) -> PeripheralEvent
-    ensures { λ r. ⌜ r ≡ fellEvent first ⌝ }
-{
-    if first == 255 {
-        return PeripheralEvent::Nothing;
-    }
-    PeripheralEvent::Offline
-}
-
-// Whether the visits passed the last slot.
-fn completes(step: Step, sent: Sent) -> bool
-    ensures { λ r. ⌜ r ≡ completesOf step sent ⌝ }
-{
-    match step {
-        Step::Stop => false,
-        Step::Control => false,
-        Step::Back => false,
-        Step::Visits => match sent {
-            Sent::Nothing => true,
-            Sent::To(_, _) => false,
-        },
-    }
-}
-
 impl DpMaster {
-    pub fn transmit_telegram(self, time: u64, high_prio_only: bool, setup: &[u8], outputs: &[u8], buf: &mut [u8]) -> Turn
+    pub fn transmit_telegram(
+        self,
+        time: u64,
+        high_prio_only: bool,
+        setup: &[u8],
+        outputs: &[u8],
+        buf: &mut [u8],
+    ) -> Turn
         ensures { λ r. ⌜ Turned self time «high_prio_only» (now (setup .entry)) (now (outputs .entry)) (now (buf .entry)) (now (buf .exit)) r ⌝ }
     {
         let u = self.parameters;
         let s = self.state;
-        let refusal = cycle::refusal::turn_refusal(u, s, time, setup.len(), outputs.len(), buf.len());
+        let refusal = cycle::refusal::turn_refusal(
+            u,
+            s,
+            time,
+            setup.len(),
+            outputs.len(),
+            buf.len(),
+        );
         if refusal != 0 {
             return Turn {
                 master: self,
@@ -197,7 +55,7 @@ impl DpMaster {
         m.state = after;
         let first = m.peripherals[cycle::seen::index(seen.first)];
         let to = m.peripherals[sent.index()];
-        let filled = fill(step, sent, to, u, s.is_clear(), setup, outputs, buf);
+        let filled = answers::turn::fill(step, sent, to, u, s.is_clear(), setup, outputs, buf);
         Turn {
             master: m,
             answer: TurnAnswer::of(step, seen, first.address(), filled),

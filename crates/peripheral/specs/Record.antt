@@ -15,29 +15,29 @@ abbrev pub blank : Peripheral
 blank =
     record {
       station =
-      record {
-        address = 0;
-        state = 0;
-        «retry_count» = 0;
-        fcb = 0;
-        «diag_needed» = false;
-        «diag_len» = 0;
-        diag = record { flags = 0; «ident_number» = 0; «master_address» = 0; held = false };
-      };
+          record {
+            address = 0;
+            state = 0;
+            «retry_count» = 0;
+            fcb = 0;
+            «diag_needed» = false;
+            «diag_len» = 0;
+            diag = record { flags = 0; «ident_number» = 0; «master_address» = 0; held = false };
+          };
       ranges = record { setup = 0; inputs = 0; outputs = 0; diag = 0; «input_len» = 0; «output_len» = 0; «diag_room» = 0 };
       options =
-      record {
-        «ident_number» = 0;
-        «max_tsdr» = 0;
-        groups = 0;
-        «sync_mode» = false;
-        «freeze_mode» = false;
-        «fail_safe» = false;
-        «has_user_parameters» = false;
-        «user_parameters» = 0;
-        «has_config» = false;
-        config = 0;
-      };
+          record {
+            «ident_number» = 0;
+            «max_tsdr» = 0;
+            groups = 0;
+            «sync_mode» = false;
+            «freeze_mode» = false;
+            «fail_safe» = false;
+            «has_user_parameters» = false;
+            «user_parameters» = 0;
+            «has_config» = false;
+            config = 0;
+          };
     }
 
 -- as newly added

@@ -4,20 +4,15 @@ use Rattle.cycle.proofs.Laws.{user-fits, config-fits}
 use borrow.Author.Needs.{needs}
 use Rattle.master.proofs.add.options_held.Statement.{statement}
 use Rattle.master.proofs.add.options_held.Tie as tie
-use Rattle.master.proofs.add.options_held.Reads as reads
-use Rattle.master.proofs.add.options_held.Lts as lts
 
--- src/add.rt:79:28
 cast-held : tie.Need-cast-held
 cast-held c =
     omega (arith, user-fits (c .before .args .l) (c .before .pre))
 
--- src/add.rt:80:19
 cast-held-2 : tie.Need-cast-held-2
 cast-held-2 c =
     omega (arith, config-fits (c .before .before .args .l) (c .before .before .pre))
 
--- src/add.rt:74:1
 returns : tie.Need-returns
 returns c = search needs
 

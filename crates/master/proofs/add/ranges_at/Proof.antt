@@ -4,25 +4,19 @@ use Rattle.cycle.proofs.Laws.{inputs-fit, outputs-fit, room-fits}
 use borrow.Author.Needs.{needs}
 use Rattle.master.proofs.add.ranges_at.Statement.{statement}
 use Rattle.master.proofs.add.ranges_at.Tie as tie
-use Rattle.master.proofs.add.ranges_at.Reads as reads
-use Rattle.master.proofs.add.ranges_at.Lts as lts
 
--- src/add.rt:54:20
 cast-t3 : tie.Need-cast-t3
 cast-t3 c =
     omega (arith, inputs-fit (c .before .args .l) (c .before .pre))
 
--- src/add.rt:55:21
 cast-t4 : tie.Need-cast-t4
 cast-t4 c =
     omega (arith, outputs-fit (c .before .before .args .l) (c .before .before .pre))
 
--- src/add.rt:56:20
 cast-t5 : tie.Need-cast-t5
 cast-t5 c =
     omega (arith, room-fits (c .before .before .before .args .l) (c .before .before .before .pre))
 
--- src/add.rt:45:1
 returns : tie.Need-returns
 returns c = search needs
 

@@ -1,129 +1,92 @@
 -- `add` meets its contract: refused or not, and where it is not, every check has passed.
-use mathlib.Core.Path.{_≡_, refl, sym, ap, _∙_}
+use mathlib.Core.Path.{refl, sym, _∙_}
 use native.Mathlib.Omega.{arith}
 use Rattle.cycle.proofs.Laws.{add-slot, add-lengths, add-room}
 use Rattle.master.proofs.Adds.{add-refused, add-accepted}
 use borrow.Author.Needs.{needs}
 use Rattle.master.proofs.unit.DpMaster.add.Statement.{statement}
 use Rattle.master.proofs.unit.DpMaster.add.Tie as tie
-use Rattle.master.proofs.unit.DpMaster.add.Reads as reads
-use Rattle.master.proofs.unit.DpMaster.add.Lts as lts
-use Rattle.cycle.proofs.refusal.add_refusal.Reads as add-refusal-reads
-use Rattle.master.proofs.add.options_held.Reads as options-held-reads
-use Rattle.master.proofs.add.present.Reads as present-reads
-use Rattle.master.proofs.add.ranges_at.Reads as ranges-at-reads
-use Rattle.master.proofs.add.store_setup.Reads as store-setup-reads
-use Rattle.master.proofs.add.used_after.Reads as used-after-reads
-use Rattle.parts.proofs.clear_at.Reads as clear-at-reads
-use Rattle.parts.proofs.place.Reads as place-reads
-use Rattle.peripheral.proofs.record.Peripheral.new.Reads as new-reads
-use Rattle.peripheral_set.proofs.first_empty.Reads as first-empty-reads
 
--- src/add.rt:102:13
 present-requires : tie.Need-present-requires
 present-requires c κs = search needs
 
--- src/add.rt:103:13
 present-requires-2 : tie.Need-present-requires-2
 present-requires-2 c κs = search needs
 
--- src/add.rt:117:13
 first-empty-requires : tie.Need-first-empty-requires
 first-empty-requires c κs = search needs
 
--- src/add.rt:118:13
 add-refusal-requires : tie.Need-add-refusal-requires
 add-refusal-requires c κs = search needs
 
--- src/add.rt:124:13
 returns : tie.Need-returns
 returns c =
     let a = c .before .before .before .before .before .before .before .before .before .before .before .before .before .before .before .args in let e = rw (c .before .before .before .before .present .ensures, c .before .before .before .present2 .ensures, c .before .before .first-empty .ensures) at (c .before .add-refusal .ensures) in add-refused _ _ (a .self) (a .a) _ _ (a .setup .now) (a .inputs .now) (a .outputs .now) (a .diags .now) _ (λ z. c .if1 .taken (e ∙ z)) (rw e refl)
 
--- src/add.rt:131:44
 options-held-requires : tie.Need-options-held-requires
 options-held-requires c κs =
     add-lengths _ _ _ _ _ _ (sym (c .before .add-refusal .ensures) ∙ c .if1 .left)
 
--- src/add.rt:131:70
 ranges-at-requires : tie.Need-ranges-at-requires
 ranges-at-requires c κs =
     add-lengths _ _ _ _ _ _ (sym (c .before .before .add-refusal .ensures) ∙ c .before .if1 .left)
 
--- src/add.rt:131:13
 new-requires : tie.Need-new-requires
 new-requires c κs = search needs
 
--- src/add.rt:132:9
 mul-p : tie.Need-mul-p
 mul-p c =
     let h = add-slot _ _ _ _ _ _ (sym (c .before .before .before .before .add-refusal .ensures) ∙ c .before .before .before .if1 .left) in search needs
 
--- src/add.rt:132:9
 element-set-from-p : tie.Need-element-set-from-p
 element-set-from-p c =
     let h = add-slot _ _ _ _ _ _ (sym (c .before .before .before .before .add-refusal .ensures) ∙ c .before .before .before .if1 .left) in search needs
 
--- src/add.rt:133:9
 element-write-m : tie.Need-element-write-m
 element-write-m c =
     let h = add-slot _ _ _ _ _ _ (sym (c .before .before .before .before .add-refusal .ensures) ∙ c .before .before .before .if1 .left) in search needs
 
--- src/add.rt:134:13
 used-after-requires : tie.Need-used-after-requires
 used-after-requires c κs =
     (add-lengths _ _ _ _ _ _ (sym (c .before .before .before .before .add-refusal .ensures) ∙ c .before .before .before .if1 .left), add-room _ _ _ _ _ _ (sym (c .before .before .before .before .add-refusal .ensures) ∙ c .before .before .before .if1 .left))
 
--- src/add.rt:136:9
 store-setup-requires : tie.Need-store-setup-requires
 store-setup-requires c κs = search needs
 
--- src/add.rt:137:33
 place-requires : tie.Need-place-requires
 place-requires c κs = search needs
 
--- src/add.rt:137:9
 clear-at-requires : tie.Need-clear-at-requires
 clear-at-requires c κs = search needs
 
--- src/add.rt:138:34
 place-requires-2 : tie.Need-place-requires-2
 place-requires-2 c κs = search needs
 
--- src/add.rt:138:9
 clear-at-requires-2 : tie.Need-clear-at-requires-2
 clear-at-requires-2 c κs = search needs
 
--- src/add.rt:139:32
 place-requires-3 : tie.Need-place-requires-3
 place-requires-3 c κs = search needs
 
--- src/add.rt:139:9
 clear-at-requires-3 : tie.Need-clear-at-requires-3
 clear-at-requires-3 c κs = search needs
 
--- src/add.rt:141:19
 cast-t44 : tie.Need-cast-t44
 cast-t44 c =
     let h = add-slot _ _ _ _ _ _ (sym (c .before .before .before .before .before .before .before .before .before .before .before .before .before .before .before .before .before .before .before .before .before .before .before .before .add-refusal .ensures) ∙ c .before .before .before .before .before .before .before .before .before .before .before .before .before .before .before .before .before .before .before .before .before .before .before .if1 .left) in omega arith
 
--- src/add.rt:95:5
 same-length : tie.Need-same-length
 same-length c = search needs
 
--- src/add.rt:95:5
 same-length-2 : tie.Need-same-length-2
 same-length-2 c = search needs
 
--- src/add.rt:95:5
 same-length-3 : tie.Need-same-length-3
 same-length-3 c = search needs
 
--- src/add.rt:95:5
 same-length-4 : tie.Need-same-length-4
 same-length-4 c = search needs
 
--- src/add.rt:95:5
 returns-2 : tie.Need-returns-2
 returns-2 c =
     let a = c .before .before .before .before .before .before .before .before .before .before .before .before .before .before .before .before .before .before .before .before .before .before .before .before .before .before .before .before .before .before .before .before .before .before .before .before .before .before .args in

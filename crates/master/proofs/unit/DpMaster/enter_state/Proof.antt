@@ -2,15 +2,10 @@
 use borrow.Author.Needs.{needs}
 use Rattle.master.proofs.unit.DpMaster.enter_state.Statement.{statement}
 use Rattle.master.proofs.unit.DpMaster.enter_state.Tie as tie
-use Rattle.master.proofs.unit.DpMaster.enter_state.Reads as reads
-use Rattle.master.proofs.unit.DpMaster.enter_state.Lts as lts
-use Rattle.cycle.proofs.state.DpMasterState.enter.Reads as enter-reads
 
--- src/unit.rt:79:9
 enter-requires : tie.Need-enter-requires
 enter-requires c κs = search needs
 
--- src/unit.rt:75:5
 returns : tie.Need-returns
 returns c =
     rw (c .enter .ensures)

@@ -1,16 +1,12 @@
 -- `handle_of` meets its contract: one fell or none.
 use borrow.Author.Tests.{eq-eqb, ne-eqb}
-use Rattle.master.proofs.turn.handle_of.Statement.{statement}
-use Rattle.master.proofs.turn.handle_of.Tie as tie
-use Rattle.master.proofs.turn.handle_of.Reads as reads
-use Rattle.master.proofs.turn.handle_of.Lts as lts
+use Rattle.answers.proofs.turn.handle_of.Statement.{statement}
+use Rattle.answers.proofs.turn.handle_of.Tie as tie
 
--- src/turn.rt:95:9
 returns : tie.Need-returns
 returns c =
     rw (eq-eqb _ _ (c .if1 .taken))
 
--- src/turn.rt:91:1
 returns-2 : tie.Need-returns-2
 returns-2 c =
     rw (ne-eqb _ _ (c .if1 .left))

@@ -1,106 +1,77 @@
 -- `fill` meets its contract: an arm for each step, and of the visits one for what was sent.
-use mathlib.Core.Path.{_≡_, refl, sym, ap, _∙_, subst}
-use Rattle.master.proofs.Turns.{nothing-filled, filled-by}
+use mathlib.Core.Path.{refl}
+use Rattle.answers.proofs.Fills.{nothing-filled, filled-by}
 use borrow.Author.Needs.{needs}
-use Rattle.master.proofs.turn.fill.Statement.{statement}
-use Rattle.master.proofs.turn.fill.Tie as tie
-use Rattle.master.proofs.turn.fill.Reads as reads
-use Rattle.master.proofs.turn.fill.Lts as lts
-use Rattle.master.proofs.turn.quiet.Reads as quiet-reads
-use Rattle.peripheral.proofs.record.Peripheral.header.Reads as header-reads
-use Rattle.peripheral.proofs.record.Peripheral.write_payload.Reads as write-payload-reads
-use Rattle.telegrams.proofs.request.control_header.Reads as control-header-reads
-use Rattle.telegrams.proofs.write.write_control.Reads as write-control-reads
+use Rattle.answers.proofs.turn.fill.Statement.{statement}
+use Rattle.answers.proofs.turn.fill.Tie as tie
 
--- src/turn.rt:65:32
 enum-told : tie.Need-enum-told
 enum-told c = search needs
 
--- src/turn.rt:65:23
 quiet-requires : tie.Need-quiet-requires
 quiet-requires c κs = search needs
 
--- src/turn.rt:66:32
 enum-told-2 : tie.Need-enum-told-2
 enum-told-2 c = search needs
 
--- src/turn.rt:66:23
 quiet-requires-2 : tie.Need-quiet-requires-2
 quiet-requires-2 c κs = search needs
 
--- src/turn.rt:68:62
 enum-told-3 : tie.Need-enum-told-3
 enum-told-3 c = search needs
 
--- src/turn.rt:68:17
 write-control-requires : tie.Need-write-control-requires
 write-control-requires c κs = search needs
 
--- src/turn.rt:69:17
 control-header-requires : tie.Need-control-header-requires
 control-header-requires c κs = search needs
 
--- src/turn.rt:70:13
 quiet-requires-3 : tie.Need-quiet-requires-3
 quiet-requires-3 c κs = search needs
 
--- src/turn.rt:72:25
 enum-told-4 : tie.Need-enum-told-4
 enum-told-4 c = search needs
 
--- src/turn.rt:73:39
 enum-told-5 : tie.Need-enum-told-5
 enum-told-5 c = search needs
 
--- src/turn.rt:73:30
 quiet-requires-4 : tie.Need-quiet-requires-4
 quiet-requires-4 c κs = search needs
 
--- src/turn.rt:74:22
 enum-known-sent : tie.Need-enum-known-sent
 enum-known-sent c = search needs
 
--- src/turn.rt:75:21
 header-requires : tie.Need-header-requires
 header-requires c κs = search needs
 
--- src/turn.rt:76:21
 write-payload-requires : tie.Need-write-payload-requires
 write-payload-requires c κs = search needs
 
--- src/turn.rt:77:17
 quiet-requires-5 : tie.Need-quiet-requires-5
 quiet-requires-5 c κs = search needs
 
--- src/turn.rt:61:1
 returns : tie.Need-returns
 returns c =
     let a = c .before .before .before .before .before .before .args in rw (c .before .enum-told .given .1) (nothing-filled _ (a .sent) (a .p) (a .u) (a .buf .now) (c .quiet .result) refl (c .quiet .ensures))
 
--- src/turn.rt:61:1
 returns-2 : tie.Need-returns-2
 returns-2 c =
     let a = c .before .before .before .before .before .before .args in rw (c .before .enum-told2 .given .1) (nothing-filled _ (a .sent) (a .p) (a .u) (a .buf .now) (c .quiet2 .result) refl (c .quiet2 .ensures))
 
--- src/turn.rt:61:1
 same-length : tie.Need-same-length
 same-length c = search needs
 
--- src/turn.rt:61:1
 returns-3 : tie.Need-returns-3
 returns-3 c =
     let a = c .before .before .before .before .before .before .before .before .before .before .before .args in rw (c .before .before .before .before .before .before .enum-told3 .given .1) (filled-by _ (a .sent) (a .p) (a .u) _ (a .buf .now) _ (c .before .before .before .before .write-control .result) (c .quiet3 .result) (c .before .before .before .before .write-control .ensures) (rw (c .before .control-header .ensures) at (c .quiet3 .ensures)))
 
--- src/turn.rt:61:1
 returns-4 : tie.Need-returns-4
 returns-4 c =
     let a = c .before .before .before .before .before .before .before .before .args in rw (c .before .before .before .enum-told4 .given .1, c .before .enum-told5 .given .1) (nothing-filled _ _ (a .p) (a .u) (a .buf .now) (c .quiet4 .result) refl (c .quiet4 .ensures))
 
--- src/turn.rt:61:1
 same-length-2 : tie.Need-same-length-2
 same-length-2 c = search needs
 
--- src/turn.rt:61:1
 returns-5 : tie.Need-returns-5
 returns-5 c =
     let a = c .before .before .before .before .before .before .before .before .before .before .before .before .before .before .args in rw (c .before .before .before .before .before .before .before .before .before .enum-told4 .given .1, c .before .before .before .before .before .before .before .sent .given .1) (filled-by _ _ (a .p) (a .u) _ (a .buf .now) _ (c .before .before .before .write-payload .result) (c .quiet5 .result) (c .before .before .before .write-payload .ensures) (rw (c .before .before .before .before .before .header .ensures) at (c .quiet5 .ensures)))

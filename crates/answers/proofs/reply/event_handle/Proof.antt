@@ -1,78 +1,60 @@
 -- `event_handle` meets its contract: an arm for each event.
 use borrow.Author.Needs.{needs}
-use Rattle.master.proofs.reply.event_handle.Statement.{statement}
-use Rattle.master.proofs.reply.event_handle.Tie as tie
-use Rattle.master.proofs.reply.event_handle.Reads as reads
-use Rattle.master.proofs.reply.event_handle.Lts as lts
+use Rattle.answers.proofs.reply.event_handle.Statement.{statement}
+use Rattle.answers.proofs.reply.event_handle.Tie as tie
 
--- src/reply.rt:36:37
 enum-told : tie.Need-enum-told
 enum-told c = search needs
 
--- src/reply.rt:37:36
 enum-told-2 : tie.Need-enum-told-2
 enum-told-2 c = search needs
 
--- src/reply.rt:38:40
 enum-told-3 : tie.Need-enum-told-3
 enum-told-3 c = search needs
 
--- src/reply.rt:39:41
 enum-told-4 : tie.Need-enum-told-4
 enum-told-4 c = search needs
 
--- src/reply.rt:40:44
 enum-told-5 : tie.Need-enum-told-5
 enum-told-5 c = search needs
 
--- src/reply.rt:41:43
 enum-told-6 : tie.Need-enum-told-6
 enum-told-6 c = search needs
 
--- src/reply.rt:42:41
 enum-told-7 : tie.Need-enum-told-7
 enum-told-7 c = search needs
 
--- src/reply.rt:43:37
 enum-told-8 : tie.Need-enum-told-8
 enum-told-8 c = search needs
 
--- src/reply.rt:24:1
 returns : tie.Need-returns
 returns c =
     rw (c .enum-told .given .1)
 
--- src/reply.rt:24:1
 returns-2 : tie.Need-returns-2
 returns-2 c =
     rw (c .enum-told2 .given .1)
 
--- src/reply.rt:24:1
 returns-3 : tie.Need-returns-3
 returns-3 c =
     rw (c .enum-told3 .given .1)
 
--- src/reply.rt:24:1
 returns-4 : tie.Need-returns-4
 returns-4 c =
     rw (c .enum-told4 .given .1)
 
--- src/reply.rt:24:1
 returns-5 : tie.Need-returns-5
 returns-5 c =
     rw (c .enum-told5 .given .1)
 
--- src/reply.rt:24:1
 returns-6 : tie.Need-returns-6
 returns-6 c =
     rw (c .enum-told6 .given .1)
 
--- src/reply.rt:24:1
 returns-7 : tie.Need-returns-7
 returns-7 c =
     rw (c .enum-told7 .given .1)
 
--- src/reply.rt:24:1
 returns-8 : tie.Need-returns-8
 returns-8 c =
     rw (c .enum-told8 .given .1)
