@@ -1,0 +1,65 @@
+-- A handle that is refused or not, and an output write.
+-- The idea: the handle's number is 0 exactly where its slot is occupied.
+use mathlib.Core.Path.{_≡_, refl, sym, ap, _∙_}
+use mathlib.Core.Bool.{Bool, true, false}
+use mathlib.Core.List.{List}
+use Prim.Native.Nat.{ℕ}
+use native.Mathlib.Omega.{arith}
+use lib.ListN.{length}
+use lib.Dec.{eqb}
+use borrow.Author.Tests.{eq-eqb, ne-eqb}
+use Rattle.parts.specs.Parts.{pick, putIn}
+use Rattle.peripheral.specs.declared.record.Peripheral.{Peripheral}
+use Rattle.peripheral.specs.Record.{blank}
+use Rattle.peripheral_set.specs.declared.PeripheralHandle.{PeripheralHandle}
+use Rattle.peripheral_set.specs.Marks.{isOccupied, handleRefusal}
+use Rattle.cycle.specs.Refusal.{unless, orElse}
+use Rattle.master.specs.declared.unit.DpMaster.{DpMaster}
+use Rattle.master.specs.Unit.{balanceAt}
+use Rattle.access.specs.declared.lookup.Found.{Found}
+use Rattle.access.specs.Lookup.{foundIn, pooledRefusal, writeRefusal, Wrote}
+
+occupied-by : (b : Bool) → _≡_ {A = ℕ} (pick b 0 4) 0 → b ≡ true
+occupied-by true e = refl
+occupied-by false e = absurd (omega arith)
+
+empty-by : (b : Bool) → (_≡_ {A = ℕ} (pick b 0 4) 0 → ⊥) → b ≡ false
+empty-by true h = absurd (h refl)
+empty-by false h = refl
+
+module _ (m : DpMaster) (h : PeripheralHandle) where
+  pub found : (p : Peripheral) (n : ℕ) → n ≡ handleRefusal h (m .occupied) → n ≡ 0 → p ≡ balanceAt (m .peripherals) (h .slot)
+      → _≡_ {A = Found} (record { refusal = 0; peripheral = p }) (record { refusal = handleRefusal h (m .occupied); peripheral = foundIn m h })
+  unfolding foundIn
+  found p n en z ep = let o = occupied-by (isOccupied (m .occupied) (h .slot)) (sym en ∙ z) in rw (o, ep) refl
+
+  pub missing : (p : Peripheral) (n : ℕ) → n ≡ handleRefusal h (m .occupied) → (n ≡ 0 → ⊥) → p ≡ blank
+      → _≡_ {A = Found} (record { refusal = n; peripheral = p }) (record { refusal = handleRefusal h (m .occupied); peripheral = foundIn m h })
+  unfolding foundIn
+  missing p n en z ep =
+      let o = empty-by (isOccupied (m .occupied) (h .slot)) (λ e. z (en ∙ e)) in
+      let four : n ≡ 4 = en ∙ rw o refl in
+      rw (o, four, ep) refl
+
+  module _ (bytes outputs : List ℕ) where
+    refused-by : (n : ℕ) → n ≡ pooledRefusal (length outputs) (m .parameters .«output_pool») h (m .occupied) → (n ≡ 0 → ⊥) → writeRefusal m h bytes outputs ≡ n
+    unfolding writeRefusal
+    refused-by n en z = rw (← en, ne-eqb n 0 z) refl
+
+    pub write-refused : (n : ℕ) → n ≡ pooledRefusal (length outputs) (m .parameters .«output_pool») h (m .occupied) → (n ≡ 0 → ⊥) → Wrote m h bytes outputs outputs n
+    write-refused n en z = let e = refused-by n en z in record { answer = sym e; pool = rw (e, ne-eqb n 0 z) refl }
+
+    accepted : (n : ℕ) → n ≡ pooledRefusal (length outputs) (m .parameters .«output_pool») h (m .occupied) → n ≡ 0 → writeRefusal m h bytes outputs ≡ unless (eqb (length bytes) (foundIn m h .ranges .«output_len»)) 11 0
+    unfolding writeRefusal
+    accepted n en z = rw (← en, z) refl
+
+    pub write-other : (n : ℕ) → n ≡ pooledRefusal (length outputs) (m .parameters .«output_pool») h (m .occupied) → n ≡ 0 → (length bytes ≡ foundIn m h .ranges .«output_len» → ⊥) → Wrote m h bytes outputs outputs 11
+    write-other n en z d =
+        let e : writeRefusal m h bytes outputs ≡ 11 = accepted n en z ∙ rw (ne-eqb _ _ d) refl in
+        record { answer = sym e; pool = rw e refl }
+
+    pub write-done : (n : ℕ) (out : List ℕ) → n ≡ pooledRefusal (length outputs) (m .parameters .«output_pool») h (m .occupied) → n ≡ 0 → length bytes ≡ foundIn m h .ranges .«output_len»
+        → out ≡ putIn (foundIn m h .ranges .outputs) (foundIn m h .ranges .«output_len») bytes outputs → Wrote m h bytes outputs out 0
+    write-done n out en z q eo =
+        let e : writeRefusal m h bytes outputs ≡ 0 = accepted n en z ∙ rw (eq-eqb _ _ q) refl in
+        record { answer = sym e; pool = rw e eo }

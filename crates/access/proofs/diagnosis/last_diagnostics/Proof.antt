@@ -1,0 +1,37 @@
+-- `last_diagnostics` meets its contract: refused or not.
+use mathlib.Core.Path.{refl}
+use borrow.Author.Tests.{ne-eqb}
+use borrow.Author.Needs.{needs}
+use Rattle.access.proofs.diagnosis.last_diagnostics.Statement.{statement}
+use Rattle.access.proofs.diagnosis.last_diagnostics.Tie as tie
+
+pooled-refusal-requires : tie.Need-pooled-refusal-requires
+pooled-refusal-requires c κs = search needs
+
+none-requires : tie.Need-none-requires
+none-requires c κs = search needs
+
+returns : tie.Need-returns
+returns c =
+    rw (← c .before .before .pooled-refusal .ensures, ne-eqb _ _ (c .before .if1 .taken), c .none .ensures) refl
+
+find-requires : tie.Need-find-requires
+find-requires c κs = search needs
+
+last-diagnostics-requires : tie.Need-last-diagnostics-requires
+last-diagnostics-requires c κs = search needs
+
+returns-2 : tie.Need-returns-2
+returns-2 c =
+    rw (← c .before .before .before .before .pooled-refusal .ensures, c .before .before .before .if1 .left, c .last-diagnostics .ensures, c .before .before .find .ensures) refl
+
+pub last-diagnostics-spec : {M : Type 1} → statement M
+last-diagnostics-spec =
+    tie.close
+    (tie.spec
+    pooled-refusal-requires
+    none-requires
+    returns
+    find-requires
+    last-diagnostics-requires
+    returns-2)

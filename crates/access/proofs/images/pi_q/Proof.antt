@@ -1,0 +1,45 @@
+-- `pi_q` meets its contract: the pool has its length or not.
+use mathlib.Core.Path.{refl, sym, _∙_}
+use borrow.Author.Tests.{eq-eqb, ne-eqb}
+use borrow.Author.Needs.{needs}
+use Rattle.access.proofs.images.pi_q.Statement.{statement}
+use Rattle.access.proofs.images.pi_q.Tie as tie
+
+find-requires : tie.Need-find-requires
+find-requires c κs = search needs
+
+place-requires : tie.Need-place-requires
+place-requires c κs = search needs
+
+pi-q-requires : tie.Need-pi-q-requires
+pi-q-requires c κs = search needs
+
+returns : tie.Need-returns
+returns c =
+    rw (eq-eqb _ _ (c .before .if1 .taken ∙ c .before .before .place .ensures .0)) (rw (c .before .before .before .before .find .ensures) at (c .pi-q .ensures))
+
+sub-result : tie.Need-sub-result
+sub-result c = search needs
+
+part-result-start : tie.Need-part-result-start
+part-result-start c = search needs
+
+part-result-end : tie.Need-part-result-end
+part-result-end c = search needs
+
+returns-2 : tie.Need-returns-2
+returns-2 c =
+    rw (ne-eqb _ _ (λ e. c .before .if1 .left (e ∙ sym (c .before .before .place .ensures .0)))) refl
+
+pub pi-q-spec : {M : Type 1} → statement M
+pi-q-spec =
+    tie.close
+    (tie.spec
+    find-requires
+    place-requires
+    pi-q-requires
+    returns
+    sub-result
+    part-result-start
+    part-result-end
+    returns-2)

@@ -1,0 +1,49 @@
+-- `write_outputs` meets its contract: each refusal, and then the put.
+use Rattle.access.proofs.Facts.{write-refused, write-other, write-done}
+use borrow.Author.Needs.{needs}
+use Rattle.access.proofs.images.write_outputs.Statement.{statement}
+use Rattle.access.proofs.images.write_outputs.Tie as tie
+
+pooled-refusal-requires : tie.Need-pooled-refusal-requires
+pooled-refusal-requires c κs = search needs
+
+returns : tie.Need-returns
+returns c =
+    let a = c .before .before .before .before .args in write-refused (a .m) (a .handle) (a .bytes .now) (a .outputs .now) (c .before .pooled-refusal .result) (c .before .pooled-refusal .ensures) (c .if1 .taken)
+
+find-requires : tie.Need-find-requires
+find-requires c κs = search needs
+
+size-requires : tie.Need-size-requires
+size-requires c κs = search needs
+
+returns-2 : tie.Need-returns-2
+returns-2 c =
+    let a = c .before .before .before .before .before .before .before .before .args in write-other (a .m) (a .handle) (a .bytes .now) (a .outputs .now) (c .before .before .before .before .before .pooled-refusal .result) (c .before .before .before .before .before .pooled-refusal .ensures) (c .before .before .before .before .if1 .left) (rw (c .before .size .ensures .0, c .before .before .before .find .ensures) at (c .if2 .taken))
+
+place-requires : tie.Need-place-requires
+place-requires c κs = search needs
+
+copy-at-requires : tie.Need-copy-at-requires
+copy-at-requires c κs = search needs
+
+same-length : tie.Need-same-length
+same-length c = search needs
+
+returns-3 : tie.Need-returns-3
+returns-3 c =
+    let a = c .before .before .before .before .before .before .before .before .before .before .before .before .before .args in write-done (a .m) (a .handle) (a .bytes .now) (a .outputs .now) (c .before .before .before .before .before .before .before .before .before .before .pooled-refusal .result) _ (c .before .before .before .before .before .before .before .before .before .before .pooled-refusal .ensures) (c .before .before .before .before .before .before .before .before .before .if1 .left) (rw (c .before .before .before .before .before .before .size .ensures .0, c .before .before .before .before .before .before .before .before .find .ensures) at (c .before .before .before .before .before .if2 .left)) (rw (c .before .before .before .place .ensures .0, c .before .before .before .before .before .before .size .ensures .0, c .before .before .before .before .before .before .before .before .find .ensures) at (c .before .before .copy-at .ensures .bytes))
+
+pub write-outputs-spec : {M : Type 1} → statement M
+write-outputs-spec =
+    tie.close
+    (tie.spec
+    pooled-refusal-requires
+    returns
+    find-requires
+    size-requires
+    returns-2
+    place-requires
+    copy-at-requires
+    same-length
+    returns-3)
