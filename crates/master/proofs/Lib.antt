@@ -2,3 +2,4 @@ pub mod Sweep
 pub mod Turns
 pub mod Replies
 pub mod Adds
+pub mod Dones

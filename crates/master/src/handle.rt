@@ -1,0 +1,71 @@
+// What a caller asks of one balance: another address, or a diagnosis.
+ghost use mathlib.Core.Path.{_≡_};
+ghost use Rattle.master.specs.Handle.{resetRefusal, resetDone, wishDone};
+use crate::unit::Done;
+use crate::unit::DpMaster;
+use fdl::parameters::Parameters;
+use peripheral_set::PeripheralHandle;
+use peripheral_set::SLOTS;
+
+// A reset: 4, then 6.
+fn reset_refusal(u: Parameters, marks: [bool; SLOTS], handle: PeripheralHandle, address: u8) -> u8
+    ensures { λ r. ⌜ r ≡ resetRefusal u marks handle address ⌝ }
+{
+    let refusal = handle.refusal(marks);
+    if refusal != 0 {
+        return refusal;
+    }
+    cycle::refusal::address_refusal(u, address)
+}
+
+impl DpMaster {
+    // The balance starts anew at another address, and its open request is closed.
+    pub fn reset_address(self, handle: PeripheralHandle, address: u8) -> Done
+        ensures { λ r. ⌜ r ≡ resetDone self handle address ⌝ }
+    {
+        let u = self.parameters;
+        let s = self.state;
+        let marks = self.occupied;
+        let refusal = reset_refusal(u, marks, handle, address);
+        if refusal != 0 {
+            return Done {
+                refusal: refusal,
+                master: self,
+            };
+        }
+        let mut m = self;
+        let i = cycle::seen::index(handle.slot);
+        let p = m.peripherals[i];
+        let q = p.reset_address(address);
+        m.peripherals[i] = q;
+        let after = s.closed_for(handle.slot);
+        m.state = after;
+        Done {
+            refusal: 0,
+            master: m,
+        }
+    }
+
+    // A wish for a diagnosis, which is retrieved at the next possible time.
+    pub fn request_diagnostics(self, handle: PeripheralHandle) -> Done
+        ensures { λ r. ⌜ r ≡ wishDone self handle ⌝ }
+    {
+        let marks = self.occupied;
+        let refusal = handle.refusal(marks);
+        if refusal != 0 {
+            return Done {
+                refusal: refusal,
+                master: self,
+            };
+        }
+        let mut m = self;
+        let i = cycle::seen::index(handle.slot);
+        let p = m.peripherals[i];
+        let q = p.request_diagnostics();
+        m.peripherals[i] = q;
+        Done {
+            refusal: 0,
+            master: m,
+        }
+    }
+}
