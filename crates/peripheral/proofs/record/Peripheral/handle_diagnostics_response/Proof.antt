@@ -2,7 +2,7 @@
 use mathlib.Core.Path.{_≡_, refl, sym, _∙_}
 use native.Mathlib.Omega.{arith}
 use lib.ListN.{length}
-use Prim.Native.Nat.{_-_, _≤_, _/_}
+use Prim.Native.Nat.{_-_, _≤_}
 use Rattle.parts.proofs.Laws.{rest}
 use mathlib.Core.Bool.{true}
 use Rattle.telegrams.specs.Diagnosis.{taken}

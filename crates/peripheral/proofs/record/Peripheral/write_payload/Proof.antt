@@ -2,7 +2,7 @@
 use mathlib.Core.Path.{_≡_}
 use mathlib.Core.List.{_++_}
 use lib.ListN.{length}
-use Prim.Native.Nat.{_+_, _-_, _/_}
+use Prim.Native.Nat.{_+_, _-_}
 use Rattle.parts.specs.Parts.{zeros}
 use Rattle.telegrams.specs.Payload.{paramHead}
 use Rattle.peripheral.specs.Visit.{payloadOf}
