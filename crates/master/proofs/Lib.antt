@@ -3,3 +3,5 @@ pub mod Turns
 pub mod Replies
 pub mod Adds
 pub mod Dones
+pub mod Bits
+pub mod Mask
