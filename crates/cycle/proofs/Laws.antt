@@ -86,10 +86,10 @@ module _ (u : Parameters) (used : Used) (l : Lengths) (z : roomRefusal u used l 
 
 -- ---- an add that is not refused has passed every check
 
-or-first : (n rest : ℕ) → orElse n rest ≡ 0 → n ≡ 0
+pub or-first : (n rest : ℕ) → orElse n rest ≡ 0 → n ≡ 0
 or-first n rest e = by-test (eqb n 0) (λ t. eqb-true n 0 t) (λ t. rw t at e)
 
-or-then : (n rest : ℕ) → orElse n rest ≡ 0 → rest ≡ 0
+pub or-then : (n rest : ℕ) → orElse n rest ≡ 0 → rest ≡ 0
 or-then n rest e = rw (eq-eqb n 0 (or-first n rest e)) at e
 
 two : _≡_ {A = ℕ} 2 0 → ⊥

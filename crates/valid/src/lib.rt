@@ -1,0 +1,1 @@
+// What holds of every unit: no code, only definitions and proofs.
