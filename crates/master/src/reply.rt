@@ -22,9 +22,10 @@ impl DpMaster {
     ) -> Answered
         ensures { λ r. ⌜ Received self address telegram (now (payload .entry)) (now (inputs .entry)) (now (diags .entry)) (now (inputs .exit)) (now (diags .exit)) r ⌝ }
     {
+        let mut m = self;
         let s = self.state;
         let i = cycle::seen::index(s.open_slot);
-        let p = self.peripherals[i];
+        let p = m.peripherals[i];
         let asked = p.address();
         let u = self.parameters;
         let refusal = cycle::refusal::reply_refusal(
@@ -39,11 +40,10 @@ impl DpMaster {
         );
         if refusal != 0 {
             return Answered {
-                master: self,
+                master: m,
                 answer: ReplyAnswer::refused(refusal),
             };
         }
-        let mut m = self;
         let marks = self.occupied;
         let r = p.receive_reply(telegram, payload, inputs, diags);
         let q = r.peripheral;

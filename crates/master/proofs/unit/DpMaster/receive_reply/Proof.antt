@@ -26,7 +26,7 @@ refused-requires c κs = search needs
 
 returns : tie.Need-returns
 returns c =
-    let a = c .before .before .before .before .before .before .before .before .before .before .before .args in let e = rw (c .before .before .before .before .address .ensures, c .before .before .before .before .before .before .index .ensures .0) at (c .before .before .reply-refusal .ensures) in reply-refused _ (a .telegram) (a .t1) (a .payload .now) (a .inputs .now) (a .diags .now) _ _ (λ z. c .before .if1 .taken (e ∙ z)) refl (c .refused .ensures ∙ ap refusedReply e)
+    let a = c .before .before .before .before .before .before .before .before .before .before .before .args in let e = rw (c .before .before .before .before .address .ensures, c .before .before .before .before .before .before .index .ensures .0) at (c .before .before .reply-refusal .ensures) in reply-refused _ (a .telegram) (a .self) (a .payload .now) (a .inputs .now) (a .diags .now) _ _ (λ z. c .before .if1 .taken (e ∙ z)) refl (c .refused .ensures ∙ ap refusedReply e)
 
 receive-reply-requires : tie.Need-receive-reply-requires
 receive-reply-requires c κs = search needs
@@ -58,7 +58,7 @@ returns-2 c =
     let i = c .before .before .before .before .before .before .before .before .before .before .before .before .before .before .before .before .before .index .ensures .0 in
     let n = rw i at (c .before .before .next-after .ensures) in
     let e = rw (c .before .before .before .before .before .before .before .before .before .before .before .before .before .before .before .address .ensures, i) at (c .before .before .before .before .before .before .before .before .before .before .before .before .before .reply-refusal .ensures) in
-    reply-accepted _ (a .telegram) (a .t1) (a .payload .now) (a .inputs .now) (a .diags .now) (c .before .before .before .before .before .before .before .before .receive-reply .result) _ _ _ (sym e ∙ c .before .before .before .before .before .before .before .before .before .before .before .before .if1 .left) (rw i at (c .before .before .before .before .before .before .before .before .receive-reply .ensures)) (rw (c .before .answered .ensures, n, i) refl) (rw (c .event-handle .ensures, c .before .before .before .before .before .before .before .before .before .before .before .before .before .before .before .address .ensures, n, i) refl)
+    reply-accepted _ (a .telegram) (a .self) (a .payload .now) (a .inputs .now) (a .diags .now) (c .before .before .before .before .before .before .before .before .receive-reply .result) _ _ _ (sym e ∙ c .before .before .before .before .before .before .before .before .before .before .before .before .if1 .left) (rw i at (c .before .before .before .before .before .before .before .before .receive-reply .ensures)) (rw (c .before .answered .ensures, n, i) refl) (rw (c .event-handle .ensures, c .before .before .before .before .before .before .before .before .before .before .before .before .before .before .before .address .ensures, n, i) refl)
 
 pub receive-reply-spec : {M : Type 1} → statement M
 receive-reply-spec =
