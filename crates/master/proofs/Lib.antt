@@ -5,3 +5,4 @@ pub mod Adds
 pub mod Dones
 pub mod Bits
 pub mod Mask
+pub mod Checks

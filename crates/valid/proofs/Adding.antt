@@ -20,7 +20,8 @@ use Rattle.cycle.specs.declared.refusal.Used.{Used}
 use Rattle.cycle.specs.declared.refusal.Lent.{Lent}
 use Rattle.cycle.specs.declared.refusal.Lengths.{Lengths}
 use Rattle.cycle.specs.Refusal.{addressRefusal, lengthRefusal, roomRefusal, addRefusal}
-use Rattle.cycle.proofs.Laws.{add-slot, add-address, add-lengths, add-room, user-fits, config-fits, inputs-fit, outputs-fit, room-fits, setup-room, input-room, output-room, diag-room}
+use Rattle.master.proofs.Checks.{add-slot, add-address, add-lengths, add-room}
+use Rattle.cycle.proofs.Laws.{user-fits, config-fits, inputs-fit, outputs-fit, room-fits, setup-room, input-room, output-room, diag-room}
 use Rattle.master.specs.declared.unit.DpMaster.{DpMaster}
 use Rattle.master.specs.declared.add.Addition.{Addition}
 use Rattle.master.specs.declared.add.Added.{Added}

@@ -1,7 +1,7 @@
 -- `add` meets its contract: refused or not, and where it is not, every check has passed.
 use mathlib.Core.Path.{refl, sym, _∙_}
 use native.Mathlib.Omega.{arith}
-use Rattle.cycle.proofs.Laws.{add-slot, add-lengths, add-room}
+use Rattle.master.proofs.Checks.{add-slot, add-lengths, add-room}
 use Rattle.master.proofs.Adds.{add-refused, add-accepted}
 use borrow.Author.Needs.{needs}
 use Rattle.master.proofs.unit.DpMaster.add.Statement.{statement}
