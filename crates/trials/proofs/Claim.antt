@@ -1,0 +1,23 @@
+-- Each row of the table comes out as 01 says.
+-- The idea: both columns are computed, and are the same list.
+use mathlib.Core.Path.{_≡_, refl}
+use mathlib.Core.List.{List, map}
+use Rattle.parts.specs.Parts.{part, inside, putIn, roomFor, splice}
+use Rattle.telegrams.specs.Payload.{paramHead, controlPayload}
+use Rattle.telegrams.specs.Diagnosis.{diagnosisOf}
+use Rattle.station.specs.Record.{tookOf}
+use Rattle.station.specs.Visit.{wishOf}
+use Rattle.station.specs.Reply.{byFlags, heardOf}
+use Rattle.peripheral.specs.Visit.{payloadOf}
+use Rattle.peripheral.specs.Reply.{storedLength, diagsTaken, stationTook, isImage, hearsOf}
+use Rattle.peripheral_set.specs.Marks.{searchFrom}
+use Rattle.cycle.specs.State.{dueOf}
+use Rattle.cycle.specs.Refusal.{turnRefusal, replyRefusal}
+use Rattle.master.specs.Turn.{sweepFrom, sweptBy, turnPayload, turnAnswer}
+use Rattle.master.specs.Reply.{replyAt}
+use Rattle.trials.specs.Trial.{Outcome, outcomesOf}
+use Rattle.trials.specs.Table.{Row, table}
+
+pub rows-hold : map (λ (r : Row). outcomesOf (r .input)) table ≡ map (λ (r : Row). r .expected) table
+unfolding part inside putIn roomFor splice paramHead controlPayload diagnosisOf tookOf wishOf byFlags heardOf payloadOf storedLength diagsTaken stationTook isImage hearsOf searchFrom dueOf turnRefusal replyRefusal sweepFrom sweptBy turnPayload turnAnswer replyAt
+rows-hold = refl
