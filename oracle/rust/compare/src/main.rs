@@ -1,1 +1,206 @@
-fn main() {}
+//! Puts the same call scripts to the oracle and to another program, and compares the answers byte for byte.
+//!
+//!   compare run PROGRAM N SEED CLASSES   N random scripts, and the exhaustive part; every class's count to the file CLASSES
+//!   compare list STDIN STDOUT            writes the stored list and the oracle's answers to it
+//!   compare show SEED K                  writes script K of a run to standard output
+//!
+//! Exit status: 0 no difference, 1 a difference, 4 a class that a full run has to reach was not, 3 a script of our own
+//! that left the domain.
+mod classes;
+mod config;
+mod exhaustive;
+mod generate;
+mod list;
+mod rng;
+mod script;
+
+use classes::Classes;
+use script::Script;
+use std::io::{Read, Write};
+use std::process::{Command, ExitCode, Stdio};
+use std::sync::mpsc::{sync_channel, Receiver, SyncSender};
+
+/// From this many scripts on every class has to occur often enough.
+const FULL: u64 = 200_000;
+
+/// Some scripts with the oracle's answers.
+struct Batch {
+    text: Vec<u8>,
+    answers: Vec<u8>,
+}
+
+/// What was made: scripts and calls of the exhaustive part, and of the random part with its classes.
+struct Made {
+    exhaustive: (u64, u64),
+    random: (u64, u64),
+    classes: Classes,
+}
+
+/// Makes the scripts; hands each batch to the checker before the program gets it, so that neither waits for the other.
+fn make(n: u64, seed: u64, batches: SyncSender<Batch>, mut program: impl Write) -> Made {
+    let mut s = Script::new();
+    let mut on = true;
+    let mut pass = |s: &mut Script, least: usize| {
+        if s.text.len() >= least && on {
+            let batch = Batch {
+                text: std::mem::take(&mut s.text),
+                answers: std::mem::take(&mut s.answers),
+            };
+            let text = batch.text.clone();
+            on = batches.send(batch).is_ok() && program.write_all(&text).is_ok();
+        }
+        on
+    };
+    exhaustive::all(&mut s, |s| {
+        pass(s, 1 << 18);
+    });
+    let exhaustive = (s.classes.scripts(), s.calls);
+    s.classes = Classes::new();
+    for k in 0..n {
+        generate::script(&mut s, seed, k, generate::Size::Full, true);
+        if !pass(&mut s, 1 << 18) {
+            break;
+        }
+    }
+    pass(&mut s, 0);
+    Made {
+        exhaustive,
+        random: (s.classes.scripts(), s.calls - exhaustive.1),
+        classes: s.classes,
+    }
+}
+
+fn lines(text: &[u8]) -> Vec<&[u8]> {
+    text.split_inclusive(|&c| c == b'\n').collect()
+}
+
+fn text(line: &[u8]) -> String {
+    String::from_utf8_lossy(line).trim_end_matches('\n').to_string()
+}
+
+/// Says where the answers part: the script so far, the call, both answers.
+fn tell(batch: &Batch, got: &[u8]) {
+    let (calls, wanted, got) = (lines(&batch.text), lines(&batch.answers), lines(got));
+    let at = (0..wanted.len()).find(|&k| got.get(k) != Some(&wanted[k])).unwrap_or(0);
+    let first = (0..=at).rev().find(|&k| calls[k].starts_with(b"N ")).unwrap_or(0);
+    println!("compare: DIFFERENCE. The script so far:");
+    for call in &calls[first..=at] {
+        println!("{}", text(call));
+    }
+    println!("the call:  {}", text(calls[at]));
+    println!("the Rust:  {}", text(wanted[at]));
+    println!("the unit:  {}", got.get(at).map_or("(nothing more)".into(), |l| text(l)));
+}
+
+/// Reads the program's answers and holds them to the oracle's. Answers the checksum, or None at a difference.
+fn check(batches: Receiver<Batch>, mut program: impl Read) -> Option<(u64, u64)> {
+    let (mut sum, mut bytes) = (0xcbf2_9ce4_8422_2325u64, 0);
+    let mut got = Vec::new();
+    for batch in batches {
+        got.resize(batch.answers.len(), 0);
+        let mut have = 0;
+        while have < got.len() {
+            match program.read(&mut got[have..]) {
+                Ok(0) | Err(_) => break,
+                Ok(n) => have += n,
+            }
+        }
+        if got[..have] != batch.answers[..] {
+            // the rest of the line where they part
+            got.truncate(have);
+            let mut byte = [0];
+            while got.last() != Some(&b'\n') && matches!(program.read(&mut byte), Ok(1)) {
+                got.push(byte[0]);
+            }
+            tell(&batch, &got);
+            return None;
+        }
+        for &b in &got {
+            sum = (sum ^ u64::from(b)).wrapping_mul(0x100_0000_01b3);
+        }
+        bytes += got.len() as u64;
+    }
+    let mut more = [0];
+    if matches!(program.read(&mut more), Ok(1)) {
+        println!("compare: DIFFERENCE. The unit answers more lines than there were calls");
+        return None;
+    }
+    Some((sum, bytes))
+}
+
+fn run(program: &str, n: u64, seed: u64, counts: &str) -> ExitCode {
+    let mut child = Command::new(program)
+        .stdin(Stdio::piped())
+        .stdout(Stdio::piped())
+        .spawn()
+        .unwrap_or_else(|e| panic!("{program}: {e}"));
+    let (stdin, stdout) = (child.stdin.take().unwrap(), child.stdout.take().unwrap());
+    let (send, receive) = sync_channel(4);
+    let maker = std::thread::spawn(move || make(n, seed, send, stdin));
+    let same = check(receive, stdout);
+    if same.is_none() {
+        let _ = child.kill();
+    }
+    let ended = child.wait().expect("the program");
+    let made = maker.join().expect("the maker of scripts");
+    let Some((sum, bytes)) = same else {
+        return ExitCode::from(1);
+    };
+    if !ended.success() {
+        println!("compare: DIFFERENCE. Same answers, but the program ended with {ended}");
+        return ExitCode::from(1);
+    }
+    let Made {
+        exhaustive,
+        random,
+        classes,
+    } = made;
+    println!("compare: no difference");
+    println!("  exhaustive part: {} scripts, {} calls", exhaustive.0, exhaustive.1);
+    println!("  random part, seed {seed}: {} scripts, {} calls", random.0, random.1);
+    println!("  {bytes} bytes of answers, checksum {sum:016x}");
+    classes.print_groups();
+    classes.write_all(counts).expect("the file of counts");
+    let rare: Vec<_> = classes.each().filter(|c| c.2 < c.3).collect();
+    if n < FULL {
+        let never = rare.iter().filter(|c| c.2 == 0).count();
+        println!("  {never} of {} classes never occurred (a run of {FULL} scripts or more asks for 1,000 each)", classes.counts.len());
+        return ExitCode::SUCCESS;
+    }
+    for (group, label, count, least) in &rare {
+        println!("compare: only {count} of {least}: {}: {label}", group.title());
+    }
+    if rare.is_empty() {
+        println!("  each of the {} classes occurred often enough", classes.counts.len());
+        ExitCode::SUCCESS
+    } else {
+        ExitCode::from(4)
+    }
+}
+
+fn main() -> ExitCode {
+    oracle::quiet_panics();
+    let args: Vec<String> = std::env::args().skip(1).collect();
+    let words: Vec<&str> = args.iter().map(String::as_str).collect();
+    match words[..] {
+        ["run", program, n, seed, counts] => {
+            run(program, n.parse().expect("N"), seed.parse().expect("SEED"), counts)
+        }
+        ["list", stdin, stdout] => {
+            let s = list::make();
+            std::fs::write(stdin, &s.text).expect("the list");
+            std::fs::write(stdout, &s.answers).expect("the answers");
+            ExitCode::SUCCESS
+        }
+        ["show", seed, k] => {
+            let mut s = Script::new();
+            generate::script(&mut s, seed.parse().expect("SEED"), k.parse().expect("K"), generate::Size::Full, true);
+            std::io::stdout().write_all(&s.text).expect("standard output");
+            ExitCode::SUCCESS
+        }
+        _ => {
+            eprintln!("usage: compare run PROGRAM N SEED CLASSES | compare list STDIN STDOUT | compare show SEED K");
+            ExitCode::from(2)
+        }
+    }
+}

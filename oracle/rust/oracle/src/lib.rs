@@ -4,8 +4,14 @@ pub mod line;
 pub mod unit;
 
 use line::Call;
-use std::panic::{catch_unwind, AssertUnwindSafe};
+use std::cell::Cell;
+use std::panic::{catch_unwind, set_hook, take_hook, AssertUnwindSafe};
 use unit::Unit;
+
+thread_local! {
+    /// A call of the original is running.
+    static ASKED: Cell<bool> = const { Cell::new(false) };
+}
 
 /// Holds the unit of the script that is running.
 pub struct Driver {
@@ -45,6 +51,7 @@ impl Driver {
                 out.push(text[0]);
                 let start = out.len();
                 let wide = self.wide;
+                ASKED.set(true);
                 let word: &[u8] = match self.unit.as_mut() {
                     None => b" outside",
                     Some(_) if self.dead => b" panic",
@@ -57,6 +64,7 @@ impl Driver {
                         }
                     },
                 };
+                ASKED.set(false);
                 if !word.is_empty() {
                     out.truncate(start);
                     out.extend_from_slice(word);
@@ -67,9 +75,12 @@ impl Driver {
     }
 }
 
-/// Panics of the original text are answers, so nothing is printed about them.
+/// A panic of the original text is an answer: nothing is printed about it. Others are told as ever.
 pub fn quiet_panics() {
-    if std::env::var_os("ORACLE_LOUD").is_none() {
-        std::panic::set_hook(Box::new(|_| ()));
-    }
+    let usual = take_hook();
+    set_hook(Box::new(move |what| {
+        if !ASKED.get() || std::env::var_os("ORACLE_LOUD").is_some() {
+            usual(what);
+        }
+    }));
 }

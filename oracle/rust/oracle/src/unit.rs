@@ -108,7 +108,7 @@ fn number(out: &mut Vec<u8>, mut n: u64) {
 }
 
 /// Each number after one space.
-fn fields(out: &mut Vec<u8>, numbers: &[u64]) {
+pub fn fields(out: &mut Vec<u8>, numbers: &[u64]) {
     for &n in numbers {
         out.push(b' ');
         number(out, n);
