@@ -1,15 +1,14 @@
 #!/bin/sh
 # Builds the oracle: the original Rust text, unchanged, over the stand-ins in rust/.
-#   build.sh [DOCS]    DOCS is the folder that holds the original's src/ (default: $DOCS, else ../../shared/docs/src)
+#   build.sh DOCS    DOCS is the folder that holds the original's src/
 # The text is held to original.sha256, copied beside the stand-ins into target/ (ignored by git) and compiled there,
 # with no network. Exit status: 0 built, 2 no text or no cargo at hand, 1 anything else.
 set -eu
-cd "$(dirname "$0")"
-docs=${1:-${DOCS:-../../shared/docs/src}}
-if [ ! -f "$docs/src/dp/master.rs" ]; then
-    echo "oracle: no original text at $docs" >&2
+if ! docs=$(cd "$1" 2> /dev/null && pwd) || [ ! -f "$docs/src/dp/master.rs" ]; then
+    echo "oracle: no original text at $1" >&2
     exit 2
 fi
+cd "$(dirname "$0")"
 if ! command -v cargo > /dev/null 2>&1; then
     echo "oracle: cargo is not at hand" >&2
     exit 2

@@ -13,6 +13,18 @@ pub enum Size {
     Small,
 }
 
+/// The two kinds of scripts that stand apart: some calls in them may be answered otherwise one day.
+#[derive(Clone, Copy, PartialEq, Eq)]
+pub enum Marked {
+    None,
+    /// As often as they come.
+    Some,
+    /// Two slots may have the same address.
+    SameAddress,
+    /// Configuration bytes that do not add up to the lengths of the images.
+    OtherConfig,
+}
+
 const PLAIN: usize = 0;
 const SAME_ADDRESS: usize = 1;
 const OTHER_CONFIG: usize = 2;
@@ -49,12 +61,12 @@ struct Run<'s> {
 }
 
 /// Script `k` of the run with this seed.
-pub fn script(s: &mut Script, seed: u64, k: u64, size: Size, marked: bool) {
+pub fn script(s: &mut Script, seed: u64, k: u64, size: Size, marked: Marked) {
     let mut rng = Rng::new(seed, k);
     let small = size == Size::Small;
-    let kind = match rng.below(100) {
-        0..=2 if marked => SAME_ADDRESS,
-        3..=5 if marked => OTHER_CONFIG,
+    let kind = match (marked, rng.below(100)) {
+        (Marked::Some, 0..=2) | (Marked::SameAddress, _) => SAME_ADDRESS,
+        (Marked::Some, 3..=5) | (Marked::OtherConfig, _) => OTHER_CONFIG,
         _ => PLAIN,
     };
     let theme = match rng.below(100) {
@@ -85,6 +97,7 @@ pub fn script(s: &mut Script, seed: u64, k: u64, size: Size, marked: bool) {
         (_, 0..=3) => rng.within(1, 4),
         (_, 4..=6) if !small => rng.within(1, 16),
         (_, _) if !small => rng.within(12, 32),
+        (_, 9) if rng.chance(500) => rng.within(4, 32),
         _ => rng.within(1, 3),
     };
     let mut waiting: Vec<Balance> = Vec::new();
@@ -183,7 +196,7 @@ fn limit(rng: &mut Rng, theme: Theme, small: bool) -> u8 {
 
 /// A length of an image or a room, `most` at the longest.
 fn length(rng: &mut Rng, extremes: usize, most: usize, small: bool) -> usize {
-    let n = if small { 30 + rng.below(70) } else { rng.below(100) };
+    let n = if small && !rng.chance(50) { 21 + rng.below(79) } else { rng.below(100) };
     match (n, extremes) {
         (0..=2, _) => most,
         (3..=5, _) => most - 1,

@@ -3,6 +3,7 @@
 //!   compare run PROGRAM N SEED CLASSES   N random scripts, and the exhaustive part; every class's count to the file CLASSES
 //!   compare list STDIN STDOUT            writes the stored list and the oracle's answers to it
 //!   compare show SEED K                  writes script K of a run to standard output
+//!   compare speed UNIT RUST              runs two programs for the measurement of speed alternately
 //!
 //! Exit status: 0 no difference, 1 a difference, 4 a class that a full run has to reach was not, 3 a script of our own
 //! that left the domain.
@@ -13,8 +14,10 @@ mod generate;
 mod list;
 mod rng;
 mod script;
+mod speed;
 
-use classes::Classes;
+use classes::{Classes, Group};
+use generate::{Marked, Size};
 use script::Script;
 use std::io::{Read, Write};
 use std::process::{Command, ExitCode, Stdio};
@@ -57,7 +60,7 @@ fn make(n: u64, seed: u64, batches: SyncSender<Batch>, mut program: impl Write) 
     let exhaustive = (s.classes.scripts(), s.calls);
     s.classes = Classes::new();
     for k in 0..n {
-        generate::script(&mut s, seed, k, generate::Size::Full, true);
+        generate::script(&mut s, seed, k, Size::Full, Marked::Some);
         if !pass(&mut s, 1 << 18) {
             break;
         }
@@ -190,16 +193,22 @@ fn main() -> ExitCode {
             let s = list::make();
             std::fs::write(stdin, &s.text).expect("the list");
             std::fs::write(stdout, &s.answers).expect("the answers");
+            println!("list: {} scripts, {} calls, {} and {} bytes", s.classes.scripts(), s.calls, s.text.len(), s.answers.len());
+            let never = s.classes.each().filter(|c| c.2 == 0 && c.0 != Group::EachLimit);
+            for (group, label, _, _) in never {
+                println!("list: never: {}: {label}", group.title());
+            }
             ExitCode::SUCCESS
         }
         ["show", seed, k] => {
             let mut s = Script::new();
-            generate::script(&mut s, seed.parse().expect("SEED"), k.parse().expect("K"), generate::Size::Full, true);
+            generate::script(&mut s, seed.parse().expect("SEED"), k.parse().expect("K"), Size::Full, Marked::Some);
             std::io::stdout().write_all(&s.text).expect("standard output");
             ExitCode::SUCCESS
         }
+        ["speed", unit, rust] => speed::measure(unit, rust),
         _ => {
-            eprintln!("usage: compare run PROGRAM N SEED CLASSES | compare list STDIN STDOUT | compare show SEED K");
+            eprintln!("usage: compare run PROGRAM N SEED CLASSES | list STDIN STDOUT | show SEED K | speed UNIT RUST");
             ExitCode::from(2)
         }
     }
