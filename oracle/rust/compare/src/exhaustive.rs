@@ -155,14 +155,16 @@ fn one(s: &mut Script, rng: &mut Rng, shape: (usize, usize, usize, u8, usize), a
     s.finish(0);
 }
 
-/// All of it, handed on script by script.
-pub fn all(s: &mut Script, mut done: impl FnMut(&mut Script)) {
+/// All of it, handed on script by script while `done` says to go on.
+pub fn all(s: &mut Script, mut done: impl FnMut(&mut Script) -> bool) {
     let mut rng = Rng::new(1, 1);
     for (k, shape) in SHAPES.into_iter().enumerate() {
         for at in 0..10 {
             for r in replies(&mut rng, shape.0, shape.2) {
                 one(s, &mut rng, shape, at, &r, k % 2);
-                done(s);
+                if !done(s) {
+                    return;
+                }
             }
         }
     }
@@ -172,7 +174,7 @@ pub fn all(s: &mut Script, mut done: impl FnMut(&mut Script)) {
 }
 
 /// Every flag word in ValidateConfig, and what is held of it.
-fn flag_words(s: &mut Script, done: &mut impl FnMut(&mut Script)) {
+fn flag_words(s: &mut Script, done: &mut impl FnMut(&mut Script) -> bool) {
     let mut rng = Rng::new(1, 2);
     for high in 0..256u16 {
         let b = balance(&mut rng, 5, 1, 1, 4);
@@ -191,12 +193,14 @@ fn flag_words(s: &mut Script, done: &mut impl FnMut(&mut Script)) {
         }
         s.dump();
         s.finish(0);
-        done(s);
+        if !done(s) {
+            return;
+        }
     }
 }
 
 /// Every pair of service access points, in Offline.
-fn access_points(s: &mut Script, done: &mut impl FnMut(&mut Script)) {
+fn access_points(s: &mut Script, done: &mut impl FnMut(&mut Script) -> bool) {
     let mut rng = Rng::new(1, 3);
     for dsap in 0..=255u8 {
         let b = balance(&mut rng, 5, 1, 1, 4);
@@ -214,12 +218,14 @@ fn access_points(s: &mut Script, done: &mut impl FnMut(&mut Script)) {
         }
         s.dump();
         s.finish(0);
-        done(s);
+        if !done(s) {
+            return;
+        }
     }
 }
 
 /// Every length of a reply with every status, in DataExchange, for several images.
-fn lengths(s: &mut Script, done: &mut impl FnMut(&mut Script)) {
+fn lengths(s: &mut Script, done: &mut impl FnMut(&mut Script) -> bool) {
     let mut rng = Rng::new(1, 4);
     for inputs in [0, 1, 2, 6, 100, 243, 244] {
         for status in STATUSES {
@@ -233,7 +239,9 @@ fn lengths(s: &mut Script, done: &mut impl FnMut(&mut Script)) {
             }
             s.dump();
             s.finish(0);
-            done(s);
+            if !done(s) {
+                return;
+            }
         }
     }
 }

@@ -11,6 +11,8 @@ pub enum Size {
     Full,
     /// Short scripts with small images, for the stored list.
     Small,
+    /// As `Full`, with Stop and Clear, which stand outside the domain.
+    Wide,
 }
 
 /// The two kinds of scripts that stand apart: some calls in them may be answered otherwise one day.
@@ -50,6 +52,7 @@ struct Run<'s> {
     kind: usize,
     theme: Theme,
     small: bool,
+    wide: bool,
     own: u8,
     /// balances that are still to be added, last first
     waiting: Vec<Balance>,
@@ -152,6 +155,7 @@ pub fn script(s: &mut Script, seed: u64, k: u64, size: Size, marked: Marked) {
         kind,
         theme,
         small,
+        wide: size == Size::Wide,
         own,
         waiting,
         answers,
@@ -161,7 +165,7 @@ pub fn script(s: &mut Script, seed: u64, k: u64, size: Size, marked: Marked) {
     for _ in 0..early {
         one.add();
     }
-    one.s.operate();
+    one.enter();
     for _ in early..first {
         one.add();
     }
@@ -357,7 +361,7 @@ impl Run<'_> {
         match self.rng.below(100) {
             0..=27 => self.s.wish(slot),
             28..=35 => self.reset(slot),
-            36..=41 => self.s.operate(),
+            36..=41 => self.enter(),
             42..=57 => {
                 let n = self.s.balance(slot).outputs;
                 let data = self.rng.bytes(n);
@@ -369,6 +373,13 @@ impl Run<'_> {
             89..=97 => self.s.listing(),
             _ if self.rng.chance(250) => self.s.dump(),
             _ => self.s.listing(),
+        }
+    }
+
+    fn enter(&mut self) {
+        match self.rng.below(5) {
+            n @ 0..=1 if self.wide => self.s.enter(n as u8),
+            _ => self.s.operate(),
         }
     }
 

@@ -19,7 +19,7 @@ fn wanted(g: Group) -> u64 {
 }
 
 pub fn make() -> Script {
-    let mut list = Script::new();
+    let mut list = Script::new(false);
     for gain in [30, 10, 5, 2, 1, 0] {
         for k in 0..CANDIDATES {
             consider(&mut list, k, gain);

@@ -1,6 +1,8 @@
 //! Puts the same call scripts to the oracle and to another program, and compares the answers byte for byte.
 //!
-//!   compare run PROGRAM N SEED CLASSES   N random scripts, and the exhaustive part; every class's count to the file CLASSES
+//!   compare run PROGRAM N SEED CLASSES   the exhaustive part, then N random scripts; every class's count to the file CLASSES
+//!   compare random PROGRAM N SEED CLASSES   the same without the exhaustive part
+//!   compare wide PROGRAM N SEED CLASSES     N random scripts with Stop and Clear, which stand outside the domain
 //!   compare list STDIN STDOUT            writes the stored list and the oracle's answers to it
 //!   compare show SEED K                  writes script K of a run to standard output
 //!   compare speed UNIT RUST              runs two programs for the measurement of speed alternately
@@ -26,6 +28,13 @@ use std::sync::mpsc::{sync_channel, Receiver, SyncSender};
 /// From this many scripts on every class has to occur often enough.
 const FULL: u64 = 200_000;
 
+#[derive(Clone, Copy, PartialEq, Eq)]
+enum Part {
+    All,
+    Random,
+    Wide,
+}
+
 /// Some scripts with the oracle's answers.
 struct Batch {
     text: Vec<u8>,
@@ -40,8 +49,9 @@ struct Made {
 }
 
 /// Makes the scripts; hands each batch to the checker before the program gets it, so that neither waits for the other.
-fn make(n: u64, seed: u64, batches: SyncSender<Batch>, mut program: impl Write) -> Made {
-    let mut s = Script::new();
+fn make(part: Part, n: u64, seed: u64, batches: SyncSender<Batch>, mut program: impl Write) -> Made {
+    let mut s = Script::new(part == Part::Wide);
+    let size = if part == Part::Wide { Size::Wide } else { Size::Full };
     let mut on = true;
     let mut pass = |s: &mut Script, least: usize| {
         if s.text.len() >= least && on {
@@ -54,13 +64,13 @@ fn make(n: u64, seed: u64, batches: SyncSender<Batch>, mut program: impl Write) 
         }
         on
     };
-    exhaustive::all(&mut s, |s| {
-        pass(s, 1 << 18);
-    });
+    if part == Part::All {
+        exhaustive::all(&mut s, |s| pass(s, 1 << 18));
+    }
     let exhaustive = (s.classes.scripts(), s.calls);
     s.classes = Classes::new();
     for k in 0..n {
-        generate::script(&mut s, seed, k, Size::Full, Marked::Some);
+        generate::script(&mut s, seed, k, size, Marked::Some);
         if !pass(&mut s, 1 << 18) {
             break;
         }
@@ -131,7 +141,7 @@ fn check(batches: Receiver<Batch>, mut program: impl Read) -> Option<(u64, u64)>
     Some((sum, bytes))
 }
 
-fn run(program: &str, n: u64, seed: u64, counts: &str) -> ExitCode {
+fn run(program: &str, part: Part, n: u64, seed: u64, counts: &str) -> ExitCode {
     let mut child = Command::new(program)
         .stdin(Stdio::piped())
         .stdout(Stdio::piped())
@@ -139,7 +149,7 @@ fn run(program: &str, n: u64, seed: u64, counts: &str) -> ExitCode {
         .unwrap_or_else(|e| panic!("{program}: {e}"));
     let (stdin, stdout) = (child.stdin.take().unwrap(), child.stdout.take().unwrap());
     let (send, receive) = sync_channel(4);
-    let maker = std::thread::spawn(move || make(n, seed, send, stdin));
+    let maker = std::thread::spawn(move || make(part, n, seed, send, stdin));
     let same = check(receive, stdout);
     if same.is_none() {
         let _ = child.kill();
@@ -165,7 +175,7 @@ fn run(program: &str, n: u64, seed: u64, counts: &str) -> ExitCode {
     classes.print_groups();
     classes.write_all(counts).expect("the file of counts");
     let rare: Vec<_> = classes.each().filter(|c| c.2 < c.3).collect();
-    if n < FULL {
+    if n < FULL || part == Part::Wide {
         let never = rare.iter().filter(|c| c.2 == 0).count();
         println!("  {never} of {} classes never occurred (a run of {FULL} scripts or more asks for 1,000 each)", classes.counts.len());
         return ExitCode::SUCCESS;
@@ -186,8 +196,13 @@ fn main() -> ExitCode {
     let args: Vec<String> = std::env::args().skip(1).collect();
     let words: Vec<&str> = args.iter().map(String::as_str).collect();
     match words[..] {
-        ["run", program, n, seed, counts] => {
-            run(program, n.parse().expect("N"), seed.parse().expect("SEED"), counts)
+        [part @ ("run" | "random" | "wide"), program, n, seed, counts] => {
+            let part = match part {
+                "run" => Part::All,
+                "random" => Part::Random,
+                _ => Part::Wide,
+            };
+            run(program, part, n.parse().expect("N"), seed.parse().expect("SEED"), counts)
         }
         ["list", stdin, stdout] => {
             let s = list::make();
@@ -201,14 +216,14 @@ fn main() -> ExitCode {
             ExitCode::SUCCESS
         }
         ["show", seed, k] => {
-            let mut s = Script::new();
+            let mut s = Script::new(false);
             generate::script(&mut s, seed.parse().expect("SEED"), k.parse().expect("K"), Size::Full, Marked::Some);
             std::io::stdout().write_all(&s.text).expect("standard output");
             ExitCode::SUCCESS
         }
         ["speed", unit, rust] => speed::measure(unit, rust),
         _ => {
-            eprintln!("usage: compare run PROGRAM N SEED CLASSES | list STDIN STDOUT | show SEED K | speed UNIT RUST");
+            eprintln!("usage: compare run|random|wide PROGRAM N SEED CLASSES | list STDIN STDOUT | show SEED K | speed UNIT RUST");
             ExitCode::from(2)
         }
     }

@@ -90,6 +90,7 @@ pub enum Visit {
 /// What a turn will do.
 #[derive(Default)]
 pub struct Plan {
+    pub stop: bool,
     pub control: bool,
     pub back: bool,
     pub visits: Vec<(usize, u8, Visit)>,
@@ -159,6 +160,8 @@ pub struct Script {
     pub calls: u64,
     pub classes: Classes,
     pub now: u64,
+    /// operating state
+    state: u8,
     limit: u8,
     turns: u64,
     balances: Vec<Balance>,
@@ -169,14 +172,16 @@ pub struct Script {
 }
 
 impl Script {
-    pub fn new() -> Self {
+    /// `wide`: Stop and Clear may be entered too.
+    pub fn new(wide: bool) -> Self {
         Script {
-            driver: Driver::new(false),
+            driver: Driver::new(wide),
             text: Vec::new(),
             answers: Vec::new(),
             calls: 0,
             classes: Classes::new(),
             now: 0,
+            state: 0,
             limit: 0,
             turns: 0,
             balances: Vec::new(),
@@ -269,6 +274,7 @@ impl Script {
         self.more(&[f1.into(), f2.into(), m.tsdr.into()]);
         self.more(&m.pools.map(|n| n as u64));
         self.ask(at);
+        self.state = 0;
         self.limit = m.retry;
         self.watchdog = m.watchdog.is_some();
         self.turns = 0;
@@ -350,18 +356,25 @@ impl Script {
                 self.classes.hit(Group::OperateAgain, 3);
             }
         }
-        self.simple(b'S', &[2]);
+        self.enter(2);
+    }
+
+    pub fn enter(&mut self, state: u8) {
+        self.simple(b'S', &[state.into()]);
+        self.state = state;
     }
 
     /// What a turn at `now` will do, by 01's rules.
     pub fn plan(&mut self, now: u64, high_prio: bool) -> Plan {
-        let limit = self.limit;
+        let (limit, stop) = (self.limit, self.state == 0);
         let n = self.balances.len();
         let unit = self.unit();
         let wait = unit.parameters().slot_time_us * 50;
         let mut plan = Plan::default();
         let place = unit.place();
-        if !high_prio && unit.last_control().is_none_or(|g| now - g >= wait) {
+        if stop {
+            plan.stop = true;
+        } else if !high_prio && unit.last_control().is_none_or(|g| now - g >= wait) {
             plan.control = true;
         } else if let Some(place) = place {
             for slot in place..n {
@@ -440,7 +453,7 @@ impl Script {
             _ => None,
         });
         let fall = plan.visits.iter().find(|v| v.2 == Visit::Falls).map(|v| v.0);
-        let done = !plan.control && !plan.back && sends.is_none();
+        let done = !plan.stop && !plan.control && !plan.back && sends.is_none();
         let right = self.open().map(|o| (o.slot, o.request)) == sends
             && completed == done
             && event == if fall.is_some() { 7 } else { 0 }
