@@ -251,6 +251,7 @@ impl Group {
                 "turn after a completed one",
                 "global control between",
                 "the same time as the turn before",
+                "a time of 2^62 or later",
             ]),
             Group::Parameters => plain(&[
                 "watchdog off", "watchdog on", "neither", "freeze", "sync", "sync, freeze",

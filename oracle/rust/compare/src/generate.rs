@@ -96,7 +96,7 @@ pub fn script(s: &mut Script, seed: u64, k: u64, size: Size, marked: Marked) {
     };
     let count = match (theme, rng.below(10)) {
         (Theme::Silence, 0..=6) => rng.within(1, 3),
-        (Theme::Silence, 7..=8) if !small => 32,
+        (Theme::Silence, 7..=8) if !small || rng.chance(50) => 32,
         (_, 0..=3) => rng.within(1, 4),
         (_, 4..=6) if !small => rng.within(1, 16),
         (_, _) if !small => rng.within(12, 32),

@@ -3,6 +3,7 @@
 //!   compare run PROGRAM N SEED CLASSES   the exhaustive part, then N random scripts; every class's count to the file CLASSES
 //!   compare random PROGRAM N SEED CLASSES   the same without the exhaustive part
 //!   compare wide PROGRAM N SEED CLASSES     N random scripts with Stop and Clear, which stand outside the domain
+//!   compare lines PROGRAM N SEED            the lines of N scripts, broken: what is a call, and what gets `?`
 //!   compare list STDIN STDOUT            writes the stored list and the oracle's answers to it
 //!   compare show SEED K                  writes script K of a run to standard output
 //!   compare speed UNIT RUST              runs two programs for the measurement of speed alternately
@@ -13,6 +14,7 @@ mod classes;
 mod config;
 mod exhaustive;
 mod generate;
+mod hostile;
 mod list;
 mod rng;
 mod script;
@@ -23,7 +25,7 @@ use generate::{Marked, Size};
 use script::Script;
 use std::io::{Read, Write};
 use std::process::{Command, ExitCode, Stdio};
-use std::sync::mpsc::{sync_channel, Receiver, SyncSender};
+use std::sync::mpsc::{channel, Receiver, Sender};
 
 /// From this many scripts on every class has to occur often enough.
 const FULL: u64 = 200_000;
@@ -48,8 +50,9 @@ struct Made {
     classes: Classes,
 }
 
-/// Makes the scripts; hands each batch to the checker before the program gets it, so that neither waits for the other.
-fn make(part: Part, n: u64, seed: u64, batches: SyncSender<Batch>, mut program: impl Write) -> Made {
+/// Makes the scripts. Each batch goes to the checker before the program gets it, and only the program holds the maker up,
+/// so that nobody waits for somebody who waits.
+fn make(part: Part, n: u64, seed: u64, batches: Sender<Batch>, mut program: impl Write) -> Made {
     let mut s = Script::new(part == Part::Wide);
     let size = if part == Part::Wide { Size::Wide } else { Size::Full };
     let mut on = true;
@@ -148,7 +151,7 @@ fn run(program: &str, part: Part, n: u64, seed: u64, counts: &str) -> ExitCode {
         .spawn()
         .unwrap_or_else(|e| panic!("{program}: {e}"));
     let (stdin, stdout) = (child.stdin.take().unwrap(), child.stdout.take().unwrap());
-    let (send, receive) = sync_channel(4);
+    let (send, receive) = channel();
     let maker = std::thread::spawn(move || make(part, n, seed, send, stdin));
     let same = check(receive, stdout);
     if same.is_none() {
@@ -204,16 +207,17 @@ fn main() -> ExitCode {
             };
             run(program, part, n.parse().expect("N"), seed.parse().expect("SEED"), counts)
         }
+        ["lines", program, n, seed] => hostile::run(program, n.parse().expect("N"), seed.parse().expect("SEED")),
         ["list", stdin, stdout] => {
             let s = list::make();
             std::fs::write(stdin, &s.text).expect("the list");
             std::fs::write(stdout, &s.answers).expect("the answers");
             println!("list: {} scripts, {} calls, {} and {} bytes", s.classes.scripts(), s.calls, s.text.len(), s.answers.len());
-            let never = s.classes.each().filter(|c| c.2 == 0 && c.0 != Group::EachLimit);
-            for (group, label, _, _) in never {
+            let never: Vec<_> = s.classes.each().filter(|c| c.2 == 0 && c.0 != Group::EachLimit).collect();
+            for (group, label, _, _) in &never {
                 println!("list: never: {}: {label}", group.title());
             }
-            ExitCode::SUCCESS
+            ExitCode::from(if never.is_empty() { 0 } else { 4 })
         }
         ["show", seed, k] => {
             let mut s = Script::new(false);
@@ -223,7 +227,7 @@ fn main() -> ExitCode {
         }
         ["speed", unit, rust] => speed::measure(unit, rust),
         _ => {
-            eprintln!("usage: compare run|random|wide PROGRAM N SEED CLASSES | list STDIN STDOUT | show SEED K | speed UNIT RUST");
+            eprintln!("usage: compare run|random|wide PROGRAM N SEED CLASSES | lines PROGRAM N SEED | list STDIN STDOUT | show SEED K | speed UNIT RUST");
             ExitCode::from(2)
         }
     }

@@ -433,6 +433,9 @@ impl Script {
         if same_time {
             self.classes.hit(Group::Cycle, 4);
         }
+        if now >= 1 << 62 {
+            self.classes.hit(Group::Cycle, 5);
+        }
         for &(slot, state, does) in &plan.visits {
             self.classes.hit(Group::Visits, visit_class(state, does));
             match does {
