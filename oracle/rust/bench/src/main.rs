@@ -68,10 +68,7 @@ fn data<'p>(from: u8, saps: (Option<u8>, Option<u8>), pdu: &'p [u8]) -> Telegram
             sa: from,
             dsap: saps.0,
             ssap: saps.1,
-            fc: FunctionCode::Response {
-                state: ResponseState::Slave,
-                status: ResponseStatus::DataLow,
-            },
+            fc: FunctionCode::Response { state: ResponseState::Slave, status: ResponseStatus::DataLow },
         },
         pdu,
     })
@@ -115,9 +112,7 @@ fn run(mode: u64, balances: u8, rounds: u64, mut sum: Sum) -> Sum {
             continue;
         };
         let h = sent.header;
-        let FunctionCode::Request { fcb, req } = h.fc else {
-            unreachable!()
-        };
+        let FunctionCode::Request { fcb, req } = h.fc else { unreachable!() };
         let fc = match req {
             RequestType::SdnLow => 4,
             RequestType::SrdLow => 12,

@@ -193,8 +193,10 @@ impl Group {
             Group::Confirmed => product(&ARRIVALS, &["image of 0 bytes", "image of more"]),
             Group::Faults => (0..16)
                 .map(|n| {
-                    let flags: Vec<&str> =
-                        (0..4).filter(|k| n >> k & 1 == 1).map(|k| ["0x0040", "0x0004", "0x0100", "0x0002"][k]).collect();
+                    let flags: Vec<&str> = (0..4)
+                        .filter(|k| n >> k & 1 == 1)
+                        .map(|k| ["0x0040", "0x0004", "0x0100", "0x0002"][k])
+                        .collect();
                     if flags.is_empty() {
                         "none".to_string()
                     } else {
@@ -202,7 +204,9 @@ impl Group {
                     }
                 })
                 .collect(),
-            Group::Flags => (0..16).map(|k| format!("0x{:04x}", 1 << k)).chain(["no master".into(), "a master".into()]).collect(),
+            Group::Flags => {
+                (0..16).map(|k| format!("0x{:04x}", 1 << k)).chain(["no master".into(), "a master".into()]).collect()
+            }
             Group::TurnEvents => plain(&["none", "Offline"]),
             Group::ReplyEvents => plain(&EVENTS[..7]),
             Group::Visits => plain(&VISITS),
@@ -217,13 +221,17 @@ impl Group {
                 "High: configuration",
                 "High: data",
             ]),
-            Group::SilentLimit => plain(&["0", "1", "2 to 9", "10 to 49", "50 to 199", "200 to 253", "254", "scripts, 200 or more"]),
+            Group::SilentLimit => {
+                plain(&["0", "1", "2 to 9", "10 to 49", "50 to 199", "200 to 253", "254", "scripts, 200 or more"])
+            }
             Group::SilentState => plain(&STATES),
             Group::FallAfterReply => plain(&["Offline", "WaitForParam", "WaitForConfig", "exchange, due"]),
             Group::FallSlot => plain(&["0", "1 to 15", "16 to 30", "31"]),
             Group::Wishes | Group::Resets => product(&STATES, &MOMENTS),
             Group::ResetTo => plain(&["a new address", "its present address"]),
-            Group::OperateAgain => plain(&["nothing open", "a request open", "cycle completed", "before a global control was sent"]),
+            Group::OperateAgain => {
+                plain(&["nothing open", "a request open", "cycle completed", "before a global control was sent"])
+            }
             Group::Adds => plain(&["before the first turn", "nothing open", "a request open", "cycle completed"]),
             Group::Writes => plain(&STATES),
             Group::Reads => plain(&[
@@ -253,21 +261,25 @@ impl Group {
                 "the same time as the turn before",
                 "a time of 2^62 or later",
             ]),
-            Group::Parameters => plain(&[
-                "watchdog off", "watchdog on", "neither", "freeze", "sync", "sync, freeze",
-            ]),
+            Group::Parameters => plain(&["watchdog off", "watchdog on", "neither", "freeze", "sync", "sync, freeze"]),
             Group::Addresses => plain(&["0, a balance", "125, a balance", "0, the master", "125, the master"]),
             Group::Balances => (1..=32).map(|n| n.to_string()).collect(),
-            Group::Images => product(&["inputs", "outputs", "room"], &["0", "1", "the longest but one", "the longest", "another length"]),
+            Group::Images => product(
+                &["inputs", "outputs", "room"],
+                &["0", "1", "the longest but one", "the longest", "another length"],
+            ),
             Group::Setup | Group::SetupSent => {
-                let all = product(&["user parameters", "configuration"], &["absent", "empty", "full", "another length"]);
+                let all =
+                    product(&["user parameters", "configuration"], &["absent", "empty", "full", "another length"]);
                 if self == Group::Setup {
                     all
                 } else {
                     all.into_iter().filter(|l| !l.contains("absent")).collect()
                 }
             }
-            Group::Kinds => plain(&["plain", "marked: the same address twice", "marked: configuration of other lengths"]),
+            Group::Kinds => {
+                plain(&["plain", "marked: the same address twice", "marked: configuration of other lengths"])
+            }
             Group::EachLimit => (0..255).map(|n| n.to_string()).collect(),
         }
     }
@@ -297,11 +309,7 @@ impl Classes {
             base.push(n);
             n += l.len();
         }
-        Classes {
-            base,
-            labels,
-            counts: vec![0; n],
-        }
+        Classes { base, labels, counts: vec![0; n] }
     }
 
     pub fn hit(&mut self, group: Group, class: usize) {

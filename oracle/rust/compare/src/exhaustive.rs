@@ -39,10 +39,7 @@ fn replies(rng: &mut Rng, inputs: usize, room: usize) -> Vec<Reply> {
         all.push(Reply::diagnosis(8, rng.bytes(n)));
     }
     for saps in [(60, 62), (62, 61), (63, 60), (62, 255), (255, 60), (255, 255), (62, 62), (60, 60), (0, 0)] {
-        all.push(Reply {
-            saps,
-            ..Reply::diagnosis(8, payload(rng, 0x0400, 1))
-        });
+        all.push(Reply { saps, ..Reply::diagnosis(8, payload(rng, 0x0400, 1)) });
     }
     all
 }
@@ -76,14 +73,7 @@ fn start(s: &mut Script, retry: u8, balances: &[Balance]) {
         }
     }
     s.now = 0;
-    s.create(&Master {
-        own: 2,
-        retry,
-        slot_time: 200,
-        watchdog: Some((2, 5)),
-        tsdr: 11,
-        pools,
-    });
+    s.create(&Master { own: 2, retry, slot_time: 200, watchdog: Some((2, 5)), tsdr: 11, pools });
     for b in balances {
         s.add(b.clone());
     }
@@ -210,10 +200,7 @@ fn access_points(s: &mut Script, done: &mut impl FnMut(&mut Script) -> bool) {
                 s.reset(0, 5);
             }
             drive(s, &mut rng, 0);
-            let r = Reply {
-                saps: (dsap, ssap),
-                ..Reply::diagnosis(8, payload(&mut rng, 0x0400, 0))
-            };
+            let r = Reply { saps: (dsap, ssap), ..Reply::diagnosis(8, payload(&mut rng, 0x0400, 0)) };
             s.reply(&r);
         }
         s.dump();

@@ -10,8 +10,32 @@ use std::process::{Command, ExitCode, Stdio};
 use std::sync::mpsc::{channel, Sender};
 
 const NUMBERS: [&str; 26] = [
-    "0", "1", "2", "3", "4", "40", "41", "125", "126", "254", "255", "256", "300", "301", "16400", "16401", "65535",
-    "65536", "1000000", "4294967295", "4294967296", "18446744073709551615", "18446744073709551616", "00", "01", "-1",
+    "0",
+    "1",
+    "2",
+    "3",
+    "4",
+    "40",
+    "41",
+    "125",
+    "126",
+    "254",
+    "255",
+    "256",
+    "300",
+    "301",
+    "16400",
+    "16401",
+    "65535",
+    "65536",
+    "1000000",
+    "4294967295",
+    "4294967296",
+    "18446744073709551615",
+    "18446744073709551616",
+    "00",
+    "01",
+    "-1",
 ];
 const BYTES: &[u8] = b"0123456789abcdefABCDEFGxXNASTRXQWIOGHDLPFB-+ \t\r\0\x80\xff";
 
@@ -140,6 +164,9 @@ pub fn run(program: &str, n: u64, seed: u64) -> ExitCode {
         println!("lines: DIFFERENCE. The program ended with {ended}, more to say: {more}");
         return ExitCode::from(1);
     }
-    println!("lines: no difference, seed {seed}: {} lines, of which {calls} are calls and {others} are not", calls + others);
+    println!(
+        "lines: no difference, seed {seed}: {} lines, of which {calls} are calls and {others} are not",
+        calls + others
+    );
     ExitCode::SUCCESS
 }

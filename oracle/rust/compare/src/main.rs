@@ -58,10 +58,7 @@ fn make(part: Part, n: u64, seed: u64, batches: Sender<Batch>, mut program: impl
     let mut on = true;
     let mut pass = |s: &mut Script, least: usize| {
         if s.text.len() >= least && on {
-            let batch = Batch {
-                text: std::mem::take(&mut s.text),
-                answers: std::mem::take(&mut s.answers),
-            };
+            let batch = Batch { text: std::mem::take(&mut s.text), answers: std::mem::take(&mut s.answers) };
             let text = batch.text.clone();
             on = batches.send(batch).is_ok() && program.write_all(&text).is_ok();
         }
@@ -79,11 +76,7 @@ fn make(part: Part, n: u64, seed: u64, batches: Sender<Batch>, mut program: impl
         }
     }
     pass(&mut s, 0);
-    Made {
-        exhaustive,
-        random: (s.classes.scripts(), s.calls - exhaustive.1),
-        classes: s.classes,
-    }
+    Made { exhaustive, random: (s.classes.scripts(), s.calls - exhaustive.1), classes: s.classes }
 }
 
 fn lines(text: &[u8]) -> Vec<&[u8]> {
@@ -166,11 +159,7 @@ fn run(program: &str, part: Part, n: u64, seed: u64, counts: &str) -> ExitCode {
         println!("compare: DIFFERENCE. Same answers, but the program ended with {ended}");
         return ExitCode::from(1);
     }
-    let Made {
-        exhaustive,
-        random,
-        classes,
-    } = made;
+    let Made { exhaustive, random, classes } = made;
     println!("compare: no difference");
     println!("  exhaustive part: {} scripts, {} calls", exhaustive.0, exhaustive.1);
     println!("  random part, seed {seed}: {} scripts, {} calls", random.0, random.1);
@@ -180,7 +169,10 @@ fn run(program: &str, part: Part, n: u64, seed: u64, counts: &str) -> ExitCode {
     let rare: Vec<_> = classes.each().filter(|c| c.2 < c.3).collect();
     if n < FULL || part == Part::Wide {
         let never = rare.iter().filter(|c| c.2 == 0).count();
-        println!("  {never} of {} classes never occurred (a run of {FULL} scripts or more asks for 1,000 each)", classes.counts.len());
+        println!(
+            "  {never} of {} classes never occurred (a run of {FULL} scripts or more asks for 1,000 each)",
+            classes.counts.len()
+        );
         return ExitCode::SUCCESS;
     }
     for (group, label, count, least) in &rare {
@@ -212,7 +204,13 @@ fn main() -> ExitCode {
             let s = list::make();
             std::fs::write(stdin, &s.text).expect("the list");
             std::fs::write(stdout, &s.answers).expect("the answers");
-            println!("list: {} scripts, {} calls, {} and {} bytes", s.classes.scripts(), s.calls, s.text.len(), s.answers.len());
+            println!(
+                "list: {} scripts, {} calls, {} and {} bytes",
+                s.classes.scripts(),
+                s.calls,
+                s.text.len(),
+                s.answers.len()
+            );
             let never: Vec<_> = s.classes.each().filter(|c| c.2 == 0 && c.0 != Group::EachLimit).collect();
             for (group, label, _, _) in &never {
                 println!("list: never: {}: {label}", group.title());

@@ -46,27 +46,15 @@ pub struct Reply {
 
 impl Reply {
     pub fn confirmation() -> Reply {
-        Reply {
-            saps: (255, 255),
-            status: None,
-            payload: Vec::new(),
-        }
+        Reply { saps: (255, 255), status: None, payload: Vec::new() }
     }
 
     pub fn data(status: u8, payload: Vec<u8>) -> Reply {
-        Reply {
-            saps: (255, 255),
-            status: Some(status),
-            payload,
-        }
+        Reply { saps: (255, 255), status: Some(status), payload }
     }
 
     pub fn diagnosis(status: u8, payload: Vec<u8>) -> Reply {
-        Reply {
-            saps: (62, 60),
-            status: Some(status),
-            payload,
-        }
+        Reply { saps: (62, 60), status: Some(status), payload }
     }
 
     /// Whether it is a diagnosis by the rules of 01.
@@ -304,7 +292,8 @@ impl Script {
 
     pub fn add(&mut self, b: Balance) {
         let moment = if self.turns == 0 { 0 } else { self.moment() };
-        let n = [u64::from(b.addr), b.ident.into(), b.sync.into(), b.freeze.into(), b.groups.into(), b.fail_safe.into()];
+        let n =
+            [u64::from(b.addr), b.ident.into(), b.sync.into(), b.freeze.into(), b.groups.into(), b.fail_safe.into()];
         let at = self.begin(b'A', &n);
         for s in [&b.user, &b.config] {
             match s {

@@ -38,7 +38,9 @@ fn median(mut times: Vec<f64>) -> f64 {
 }
 
 pub fn measure(unit: &str, rust: &str) -> ExitCode {
-    println!("speed: {ROUNDS} rounds, medians of {RUNS} runs each, alternately, in nanoseconds of processor time a round");
+    println!(
+        "speed: {ROUNDS} rounds, medians of {RUNS} runs each, alternately, in nanoseconds of processor time a round"
+    );
     println!("                             the unit   the Rust   ratio   the sum alone   ratio without it");
     for (mode, what) in ["all in exchange", "one answering"].iter().enumerate() {
         for balances in [1, 8, 32] {

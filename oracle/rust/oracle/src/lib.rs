@@ -26,12 +26,7 @@ pub struct Driver {
 
 impl Driver {
     pub fn new(wide: bool) -> Self {
-        Driver {
-            unit: None,
-            wide,
-            begun: false,
-            dead: false,
-        }
+        Driver { unit: None, wide, begun: false, dead: false }
     }
 
     /// Answers one line (with no newline in it); the answer has its newline.

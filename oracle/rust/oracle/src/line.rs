@@ -36,14 +36,31 @@ pub enum Call {
     N(Creation),
     A(Addition),
     S(u8),
-    T { now: u64, high_prio: bool },
+    T {
+        now: u64,
+        high_prio: bool,
+    },
     R(Reply),
-    X { slot: u8, new: u8 },
-    Q { slot: u8 },
-    W { slot: u8, bytes: Vec<u8> },
-    I { slot: u8 },
-    O { slot: u8 },
-    G { slot: u8 },
+    X {
+        slot: u8,
+        new: u8,
+    },
+    Q {
+        slot: u8,
+    },
+    W {
+        slot: u8,
+        bytes: Vec<u8>,
+    },
+    I {
+        slot: u8,
+    },
+    O {
+        slot: u8,
+    },
+    G {
+        slot: u8,
+    },
     H,
     D,
     /// L, P, F and B: what the original has no notion of
@@ -139,14 +156,7 @@ pub fn read(text: &[u8]) -> Option<Call> {
             let slot_time = f.upto(0xffff_ffff)? as u32;
             let (on, f1, f2, tsdr) = (f.flag()?, f.byte()?, f.byte()?, f.byte()?);
             let pools = [f.word()?, f.word()?, f.word()?, f.word()?];
-            Call::N(Creation {
-                own,
-                retry,
-                slot_time,
-                watchdog: on.then_some((f1, f2)),
-                tsdr,
-                pools,
-            })
+            Call::N(Creation { own, retry, slot_time, watchdog: on.then_some((f1, f2)), tsdr, pools })
         }
         b"A" => Call::A(Addition {
             addr: f.byte()?,
@@ -160,10 +170,7 @@ pub fn read(text: &[u8]) -> Option<Call> {
             lengths: [f.word()?, f.word()?, f.word()?],
         }),
         b"S" => Call::S(f.upto(2)? as u8),
-        b"T" => Call::T {
-            now: f.upto(u64::MAX)?,
-            high_prio: f.flag()?,
-        },
+        b"T" => Call::T { now: f.upto(u64::MAX)?, high_prio: f.flag()? },
         b"R" => {
             let r = Reply {
                 addr: f.byte()?,

@@ -276,12 +276,7 @@ impl Unit {
         let balance = Peripheral::new(a.addr, options, vec![0; inputs], vec![0; outputs]);
         let handle = self.dp.add(balance.with_diag_buffer(vec![0; room]));
         assert!(usize::from(handle.peek_index()) == self.added.len());
-        self.added.push(Added {
-            handle,
-            user,
-            config,
-            off: self.used,
-        });
+        self.added.push(Added { handle, user, config, off: self.used });
         for (used, need) in self.used.iter_mut().zip(need) {
             *used += need;
         }
@@ -328,9 +323,7 @@ impl Unit {
             return true;
         };
         let h = sent.header;
-        let FunctionCode::Request { fcb, req } = h.fc else {
-            panic!("the original sent a response")
-        };
+        let FunctionCode::Request { fcb, req } = h.fc else { panic!("the original sent a response") };
         let fc = match req {
             RequestType::SdnLow => 4,
             RequestType::SrdLow => 12,
@@ -372,10 +365,7 @@ impl Unit {
                     sa: r.addr,
                     dsap: sap(r.dsap),
                     ssap: sap(r.ssap),
-                    fc: FunctionCode::Response {
-                        state: ResponseState::Slave,
-                        status,
-                    },
+                    fc: FunctionCode::Response { state: ResponseState::Slave, status },
                 },
                 pdu: &r.payload,
             }),
