@@ -18,6 +18,7 @@ mod hostile;
 mod list;
 mod rng;
 mod script;
+mod shrink;
 mod speed;
 
 use classes::{Classes, Group};
@@ -87,22 +88,31 @@ fn text(line: &[u8]) -> String {
     String::from_utf8_lossy(line).trim_end_matches('\n').to_string()
 }
 
-/// Says where the answers part: the script so far, the call, both answers.
-fn tell(batch: &Batch, got: &[u8]) {
+fn show(script: &[Vec<u8>], wanted: &[u8], got: &[u8]) {
+    for call in script {
+        println!("{}", text(call));
+    }
+    println!("the call:  {}", text(script.last().unwrap()));
+    println!("the Rust:  {}", text(wanted));
+    println!("the unit:  {}", text(got));
+}
+
+/// Says where the answers part: the script so far, the call, both answers; then the same with a smaller script.
+fn tell(program: &str, batch: &Batch, got: &[u8]) {
     let (calls, wanted, got) = (lines(&batch.text), lines(&batch.answers), lines(got));
     let at = (0..wanted.len()).find(|&k| got.get(k) != Some(&wanted[k])).unwrap_or(0);
     let first = (0..=at).rev().find(|&k| calls[k].starts_with(b"N ")).unwrap_or(0);
     println!("compare: DIFFERENCE. The script so far:");
-    for call in &calls[first..=at] {
-        println!("{}", text(call));
+    let script: Vec<Vec<u8>> = calls[first..=at].iter().map(|l| l.to_vec()).collect();
+    show(&script, wanted[at], got.get(at).unwrap_or(&&b"(nothing more)"[..]));
+    if let Some(small) = shrink::smallest(program, script) {
+        println!("compare: the same with a small script:");
+        show(&small.script, &small.wanted, &small.got);
     }
-    println!("the call:  {}", text(calls[at]));
-    println!("the Rust:  {}", text(wanted[at]));
-    println!("the unit:  {}", got.get(at).map_or("(nothing more)".into(), |l| text(l)));
 }
 
 /// Reads the program's answers and holds them to the oracle's. Answers the checksum, or None at a difference.
-fn check(batches: Receiver<Batch>, mut program: impl Read) -> Option<(u64, u64)> {
+fn check(name: &str, batches: Receiver<Batch>, mut program: impl Read) -> Option<(u64, u64)> {
     let (mut sum, mut bytes) = (0xcbf2_9ce4_8422_2325u64, 0);
     let mut got = Vec::new();
     for batch in batches {
@@ -121,7 +131,7 @@ fn check(batches: Receiver<Batch>, mut program: impl Read) -> Option<(u64, u64)>
             while got.last() != Some(&b'\n') && matches!(program.read(&mut byte), Ok(1)) {
                 got.push(byte[0]);
             }
-            tell(&batch, &got);
+            tell(name, &batch, &got);
             return None;
         }
         for &b in &got {
@@ -146,7 +156,7 @@ fn run(program: &str, part: Part, n: u64, seed: u64, counts: &str) -> ExitCode {
     let (stdin, stdout) = (child.stdin.take().unwrap(), child.stdout.take().unwrap());
     let (send, receive) = channel();
     let maker = std::thread::spawn(move || make(part, n, seed, send, stdin));
-    let same = check(receive, stdout);
+    let same = check(program, receive, stdout);
     if same.is_none() {
         let _ = child.kill();
     }
