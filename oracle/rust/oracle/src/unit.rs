@@ -1,0 +1,510 @@
+//! One unit: the original DP master with what a script's calls need around it (pool lengths, the open request, the
+//! time of the last turn), and the answer to each call in the words of docs/SCRIPTS.md.
+//!
+//! Only what stands in the domain of the comparison is asked of the original; for anything else `call` answers false
+//! and changes nothing. The original knows no pools: each balance owns its images, and D puts the pools together.
+use crate::line::{Addition, Call, Creation, Reply};
+use profirust::dp::{
+    DpMaster, OperatingState, Peripheral, PeripheralEvent, PeripheralHandle, PeripheralOptions, PeripheralStorage,
+};
+use profirust::fdl::{
+    DataTelegram, DataTelegramHeader, FdlActiveStation, FdlApplication, FrameCountBit, FunctionCode, Parameters,
+    RequestType, ResponseState, ResponseStatus, ShortConfirmation, Telegram, TelegramTx,
+};
+use profirust::time::Instant;
+use std::panic::{catch_unwind, AssertUnwindSafe};
+
+pub const SLOTS: usize = 32;
+/// Bytes of a pool array, entries of the list array: docs/SCRIPTS.md, "What the program holds".
+const ARRAY: usize = 16_400;
+const LIST: usize = 40;
+
+/// Set-up data, which the original only borrows: kept here, and given back when the unit is gone.
+#[derive(Default)]
+struct Setup(Vec<*mut [u8]>);
+
+impl Setup {
+    fn keep(&mut self, data: &[u8]) -> &'static [u8] {
+        let kept = Box::into_raw(data.to_vec().into_boxed_slice());
+        self.0.push(kept);
+        // The bytes live until `Setup` is dropped, after the master (field order of `Unit`).
+        unsafe { &*kept }
+    }
+}
+
+impl Drop for Setup {
+    fn drop(&mut self) {
+        for &kept in &self.0 {
+            drop(unsafe { Box::from_raw(kept) });
+        }
+    }
+}
+
+struct Added {
+    handle: PeripheralHandle,
+    user: Option<&'static [u8]>,
+    config: Option<&'static [u8]>,
+    /// first byte in each pool
+    off: [usize; 4],
+}
+
+/// What a turn sent, and so what a reply would answer.
+#[derive(Clone, Copy, PartialEq, Eq, Debug)]
+pub enum Request {
+    Diagnosis,
+    Parameters,
+    Configuration,
+    Data,
+}
+
+#[derive(Clone, Copy)]
+pub struct Open {
+    pub slot: usize,
+    pub addr: u8,
+    pub request: Request,
+}
+
+/// What can be seen of a balance, for the generator.
+pub struct View {
+    pub addr: u8,
+    /// 0 Offline to 5 DataExchange
+    pub state: u8,
+    pub count: u8,
+    pub bit: u8,
+    pub due: bool,
+    pub held: bool,
+    pub stored: usize,
+    pub inputs: usize,
+    pub outputs: usize,
+    pub room: usize,
+    pub user: Option<usize>,
+    pub config: Option<usize>,
+}
+
+pub struct Unit {
+    dp: DpMaster<'static>,
+    setup: Setup,
+    fdl: FdlActiveStation,
+    added: Vec<Added>,
+    pub pools: [usize; 4],
+    pub used: [usize; 4],
+    pub last_turn: Option<u64>,
+    pub open: Option<Open>,
+    list: [[u8; 3]; LIST],
+}
+
+fn number(out: &mut Vec<u8>, mut n: u64) {
+    let mut digits = [0u8; 20];
+    let mut at = digits.len();
+    loop {
+        at -= 1;
+        digits[at] = b'0' + (n % 10) as u8;
+        n /= 10;
+        if n == 0 {
+            break;
+        }
+    }
+    out.extend_from_slice(&digits[at..]);
+}
+
+/// Each number after one space.
+pub fn fields(out: &mut Vec<u8>, numbers: &[u64]) {
+    for &n in numbers {
+        out.push(b' ');
+        number(out, n);
+    }
+}
+
+/// A space, then the bytes.
+pub fn bytes(out: &mut Vec<u8>, data: &[u8]) {
+    const HEX: &[u8; 16] = b"0123456789abcdef";
+    out.push(b' ');
+    if data.is_empty() {
+        out.push(b'-');
+    }
+    for &b in data {
+        out.push(HEX[usize::from(b >> 4)]);
+        out.push(HEX[usize::from(b & 15)]);
+    }
+}
+
+fn checksum(data: impl Iterator<Item = u8>) -> u64 {
+    data.fold(1, |h, b| (h * 256 + u64::from(b)) % 1_000_000_007)
+}
+
+fn event_code(event: PeripheralEvent) -> u64 {
+    match event {
+        PeripheralEvent::Online => 1,
+        PeripheralEvent::Configured => 2,
+        PeripheralEvent::ConfigError => 3,
+        PeripheralEvent::ParameterError => 4,
+        PeripheralEvent::DataExchanged => 5,
+        PeripheralEvent::Diagnostics => 6,
+        PeripheralEvent::Offline => 7,
+    }
+}
+
+fn bit_code(bit: FrameCountBit) -> u8 {
+    match bit {
+        FrameCountBit::Inactive => 0,
+        FrameCountBit::First => 1,
+        FrameCountBit::Low => 2,
+        FrameCountBit::High => 3,
+    }
+}
+
+fn sap(number: u8) -> Option<u8> {
+    (number != 255).then_some(number)
+}
+
+impl Unit {
+    /// None for a creation that 01 refuses.
+    pub fn new(p: &Creation) -> Option<Unit> {
+        let allowed = p.own <= 125
+            && p.retry <= 254
+            && (1..=1_000_000).contains(&p.slot_time)
+            && p.pools.iter().all(|&n| n <= 16_384);
+        if !allowed {
+            return None;
+        }
+        let storage: Vec<PeripheralStorage<'static>> = (0..SLOTS).map(|_| Default::default()).collect();
+        Some(Unit {
+            dp: DpMaster::new(storage),
+            setup: Setup::default(),
+            fdl: FdlActiveStation::new(Parameters {
+                address: p.own,
+                slot_time_us: u64::from(p.slot_time),
+                max_retry_limit: p.retry,
+                watchdog_factors: p.watchdog,
+                min_tsdr_bits: p.tsdr,
+            }),
+            added: Vec::new(),
+            pools: p.pools.map(usize::from),
+            used: [0; 4],
+            last_turn: None,
+            open: None,
+            list: [[0; 3]; LIST],
+        })
+    }
+
+    /// Makes the call; the answer goes to `out`, after the letter. False: the original is not asked this.
+    pub fn call(&mut self, call: &Call, wide: bool, out: &mut Vec<u8>) -> bool {
+        match call {
+            Call::A(a) => self.add(a, out),
+            Call::S(state) => self.enter(*state, wide, out),
+            Call::T { now, high_prio } => self.turn(*now, *high_prio, out),
+            Call::R(r) => self.reply(r, out),
+            Call::X { slot, new } => self.reset(*slot, *new, out),
+            Call::Q { slot } => self.with(*slot, |p| {
+                p.request_diagnostics();
+                fields(out, &[0]);
+                true
+            }),
+            Call::W { slot, bytes } => self.with(*slot, |p| {
+                if p.pi_q().len() != bytes.len() {
+                    return false;
+                }
+                p.pi_q_mut().copy_from_slice(bytes);
+                fields(out, &[0]);
+                true
+            }),
+            Call::I { slot } => self.with(*slot, |p| {
+                fields(out, &[0, p.pi_i().len() as u64]);
+                bytes(out, p.pi_i());
+                true
+            }),
+            Call::O { slot } => self.with(*slot, |p| {
+                fields(out, &[0, p.pi_q().len() as u64]);
+                bytes(out, p.pi_q());
+                true
+            }),
+            Call::G { slot } => self.with(*slot, |p| {
+                match p.last_diagnostics() {
+                    None => out.extend_from_slice(b" 0 0 0 0 255 0 -"),
+                    Some(d) => {
+                        let (flags, ident) = (u64::from(d.flags.bits()), u64::from(d.ident_number));
+                        let part = d.extended_diagnostics.stored();
+                        let master = d.master_address.map_or(255, u64::from);
+                        fields(out, &[0, 1, flags, ident, master, part.len() as u64]);
+                        bytes(out, part);
+                    }
+                }
+                true
+            }),
+            Call::H => self.listing(out),
+            Call::D => self.dump(out),
+            Call::N(_) | Call::Other => false,
+        }
+    }
+
+    fn with(&mut self, slot: u8, f: impl FnOnce(&mut Peripheral<'static>) -> bool) -> bool {
+        match self.added.get(usize::from(slot)) {
+            None => false,
+            Some(a) => f(self.dp.get_mut(a.handle)),
+        }
+    }
+
+    fn add(&mut self, a: &Addition, out: &mut Vec<u8>) -> bool {
+        let length = |s: &Option<Vec<u8>>| s.as_ref().map_or(0, Vec::len);
+        let (user, config) = (length(&a.user), length(&a.config));
+        let [inputs, outputs, room] = a.lengths.map(usize::from);
+        let need = [user + config, inputs, outputs, room];
+        if self.added.len() == SLOTS
+            || a.addr > 125
+            || a.addr == self.fdl.parameters().address
+            || user > 237
+            || config > 244
+            || inputs > 244
+            || outputs > 244
+            || room > 238
+            || (0..4).any(|k| self.used[k] + need[k] > self.pools[k])
+        {
+            return false;
+        }
+        let user = a.user.as_ref().map(|u| self.setup.keep(u));
+        let config = a.config.as_ref().map(|c| self.setup.keep(c));
+        let options = PeripheralOptions {
+            ident_number: a.ident,
+            sync_mode: a.sync,
+            freeze_mode: a.freeze,
+            groups: a.groups,
+            max_tsdr: 0,
+            fail_safe: a.fail_safe,
+            user_parameters: user,
+            config,
+        };
+        let balance = Peripheral::new(a.addr, options, vec![0; inputs], vec![0; outputs]);
+        let handle = self.dp.add(balance.with_diag_buffer(vec![0; room]));
+        assert!(usize::from(handle.peek_index()) == self.added.len());
+        self.added.push(Added { handle, user, config, off: self.used });
+        for (used, need) in self.used.iter_mut().zip(need) {
+            *used += need;
+        }
+        fields(out, &[0, handle.peek_index().into(), handle.address().into()]);
+        true
+    }
+
+    fn enter(&mut self, state: u8, wide: bool, out: &mut Vec<u8>) -> bool {
+        match state {
+            2 => self.dp.enter_state(OperatingState::Operate),
+            _ if !wide => return false,
+            _ => {
+                // The original sets the state and then runs into todo!(); this panic alone is passed over.
+                let wanted = [OperatingState::Stop, OperatingState::Clear][usize::from(state)];
+                let dp = &mut self.dp;
+                let _ = catch_unwind(AssertUnwindSafe(|| dp.enter_state(wanted)));
+                assert!(self.dp.operating_state() == wanted);
+            }
+        }
+        fields(out, &[0]);
+        true
+    }
+
+    fn turn(&mut self, now: u64, high_prio: bool, out: &mut Vec<u8>) -> bool {
+        let Ok(time) = i64::try_from(now) else {
+            return false;
+        };
+        let endless = self.added.is_empty() && !self.dp.operating_state().is_stop();
+        if self.last_turn.is_some_and(|t| now < t) || endless {
+            return false;
+        }
+        let mut buf = [0u8; 255];
+        let time = Instant::from_micros_const(time);
+        let sent = self.dp.transmit_telegram(time, &self.fdl, TelegramTx::new(&mut buf), high_prio);
+        let events = self.dp.take_last_events();
+        self.last_turn = Some(now);
+        self.open = None;
+        let (code, slot) = events.peripheral.map_or((0, 255), |(h, e)| (event_code(e), h.peek_index()));
+        // At most one Offline in a turn: the original asserts it, so the mask has one bit at most.
+        let mask = if code == 7 { 1 << slot } else { 0 };
+        fields(out, &[0, events.cycle_completed.into(), mask, code, slot.into()]);
+        let Some(sent) = sent else {
+            fields(out, &[0, 0]);
+            return true;
+        };
+        let h = sent.header;
+        let FunctionCode::Request { fcb, req } = h.fc else { panic!("the original sent a response") };
+        let fc = match req {
+            RequestType::SdnLow => 4,
+            RequestType::SrdLow => 12,
+            RequestType::SrdHigh => 13,
+        };
+        if h.da != 0x7f {
+            self.open = Some(self.sent_to(&h));
+        }
+        let to = self.open.map_or(255, |o| o.slot as u64);
+        let (dsap, ssap) = (h.dsap.unwrap_or(255), h.ssap.unwrap_or(255));
+        fields(out, &[sent.pdu_len as u64, 1, h.da.into(), h.sa.into(), dsap.into(), ssap.into()]);
+        fields(out, &[fc, bit_code(fcb).into(), to]);
+        bytes(out, &buf[..sent.pdu_len]);
+        true
+    }
+
+    /// The slot that the place found, with what it was sent.
+    fn sent_to(&self, h: &DataTelegramHeader) -> Open {
+        let place = self.dp.peek_place().expect("sent with no place");
+        let slot = self.dp.iter().map(|(h, _)| h.peek_index()).find(|&i| i >= place).expect("sent to no slot");
+        Open {
+            slot: slot.into(),
+            addr: h.da,
+            request: match h.dsap {
+                Some(60) => Request::Diagnosis,
+                Some(61) => Request::Parameters,
+                Some(62) => Request::Configuration,
+                _ => Request::Data,
+            },
+        }
+    }
+
+    fn reply(&mut self, r: &Reply, out: &mut Vec<u8>) -> bool {
+        let telegram = match (r.kind, ResponseStatus::from_code(r.status)) {
+            (0, _) => Telegram::ShortConfirmation(ShortConfirmation),
+            (1, Some(status)) if r.payload.len() <= 246 => Telegram::Data(DataTelegram {
+                h: DataTelegramHeader {
+                    da: self.fdl.parameters().address,
+                    sa: r.addr,
+                    dsap: sap(r.dsap),
+                    ssap: sap(r.ssap),
+                    fc: FunctionCode::Response { state: ResponseState::Slave, status },
+                },
+                pdu: &r.payload,
+            }),
+            _ => return false,
+        };
+        if !self.open.is_some_and(|o| o.addr == r.addr) {
+            return false;
+        }
+        // The original does not look at the time of a reply.
+        let now = Instant::from_micros_const(self.last_turn.unwrap_or(0) as i64);
+        self.dp.receive_reply(now, &self.fdl, r.addr, telegram);
+        let events = self.dp.take_last_events();
+        self.open = None;
+        let (code, slot) = events.peripheral.map_or((0, 255), |(h, e)| (event_code(e), h.peek_index()));
+        fields(out, &[0, events.cycle_completed.into(), code, slot.into()]);
+        true
+    }
+
+    fn reset(&mut self, slot: u8, new: u8, out: &mut Vec<u8>) -> bool {
+        if new > 125 || new == self.fdl.parameters().address {
+            return false;
+        }
+        let done = self.with(slot, |p| {
+            p.reset_address(new);
+            true
+        });
+        if !done {
+            return false;
+        }
+        if self.open.is_some_and(|o| o.slot == usize::from(slot)) {
+            self.open = None;
+        }
+        fields(out, &[0]);
+        true
+    }
+
+    fn listing(&mut self, out: &mut Vec<u8>) -> bool {
+        let mut n = 0;
+        for (h, p) in self.dp.iter() {
+            self.list[n] = [h.peek_index(), h.address(), p.is_running().into()];
+            n += 1;
+        }
+        fields(out, &[0, n as u64]);
+        for entry in &self.list[..n] {
+            fields(out, &entry.map(u64::from));
+        }
+        fields(out, &[checksum(self.list.iter().flatten().copied())]);
+        true
+    }
+
+    fn dump(&mut self, out: &mut Vec<u8>) -> bool {
+        let p = self.fdl.parameters();
+        let (f1, f2) = p.watchdog_factors.unwrap_or((0, 0));
+        let on = p.watchdog_factors.is_some();
+        fields(out, &[p.address.into(), p.max_retry_limit.into(), p.slot_time_us, on.into()]);
+        fields(out, &[f1.into(), f2.into(), p.min_tsdr_bits.into()]);
+        fields(out, &self.pools.map(|n| n as u64));
+        let state = match self.dp.operating_state() {
+            OperatingState::Stop => 0,
+            OperatingState::Clear => 1,
+            OperatingState::Operate => 2,
+        };
+        let control = self.last_control();
+        fields(out, &[state, self.last_turn.is_some().into(), self.last_turn.unwrap_or(0)]);
+        fields(out, &[control.is_some().into(), control.unwrap_or(0)]);
+        fields(out, &[self.place().map_or(255, |i| i as u64), self.open.map_or(255, |o| o.slot as u64)]);
+        fields(out, &self.used.map(|n| n as u64));
+        let mut pools = [[0u8; ARRAY]; 4];
+        for ((_, p), a) in self.dp.iter().zip(&self.added) {
+            let (user, config) = (a.user.unwrap_or(&[]), a.config.unwrap_or(&[]));
+            let mut put = |pool: usize, at: usize, data: &[u8]| pools[pool][at..][..data.len()].copy_from_slice(data);
+            put(0, a.off[0], user);
+            put(0, a.off[0] + user.len(), config);
+            put(1, a.off[1], p.pi_i());
+            put(2, a.off[2], p.pi_q());
+            put(3, a.off[3], p.peek().ext_room);
+        }
+        for pool in &pools {
+            fields(out, &[checksum(pool.iter().copied())]);
+        }
+        fields(out, &[self.added.len() as u64]);
+        for ((h, p), a) in self.dp.iter().zip(&self.added) {
+            let (k, o) = (p.peek(), p.options());
+            assert!(o.user_parameters == a.user && o.config == a.config);
+            let (flags, ident, master) = k.held.unwrap_or((0, 0, None));
+            fields(out, &[h.peek_index().into(), p.address().into(), k.state.into(), k.count.into()]);
+            fields(out, &[bit_code(k.fcb).into(), k.due.into(), k.held.is_some().into()]);
+            fields(out, &[flags.into(), ident.into(), master.map_or(255, u64::from), k.ext_len as u64]);
+            fields(out, &[o.ident_number.into(), o.sync_mode.into(), o.freeze_mode.into()]);
+            fields(out, &[o.groups.into(), o.fail_safe.into()]);
+            for s in [a.user, a.config] {
+                match s {
+                    None => out.extend_from_slice(b" x"),
+                    Some(s) => fields(out, &[s.len() as u64]),
+                }
+            }
+            fields(out, &[p.pi_i().len() as u64, p.pi_q().len() as u64, k.ext_room.len() as u64]);
+            fields(out, &a.off.map(|n| n as u64));
+        }
+        true
+    }
+
+    // What the generator looks at.
+
+    pub fn balances(&self) -> usize {
+        self.added.len()
+    }
+
+    /// The place; None when the cycle was completed by a reply.
+    pub fn place(&self) -> Option<usize> {
+        self.dp.peek_place().map(usize::from)
+    }
+
+    /// The time of the last global control since the state was set.
+    pub fn last_control(&self) -> Option<u64> {
+        self.dp.peek_global_control().map(|t| t.total_micros() as u64)
+    }
+
+    pub fn parameters(&self) -> &Parameters {
+        self.fdl.parameters()
+    }
+
+    pub fn view(&mut self, slot: usize) -> View {
+        let a = &self.added[slot];
+        let p = self.dp.get_mut(a.handle);
+        let k = p.peek();
+        View {
+            addr: p.address(),
+            state: k.state,
+            count: k.count,
+            bit: bit_code(k.fcb),
+            due: k.due,
+            held: k.held.is_some(),
+            stored: k.ext_len,
+            inputs: p.pi_i().len(),
+            outputs: p.pi_q().len(),
+            room: k.ext_room.len(),
+            user: a.user.map(<[u8]>::len),
+            config: a.config.map(<[u8]>::len),
+        }
+    }
+}
