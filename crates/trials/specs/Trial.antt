@@ -3,9 +3,9 @@
 use Prim.Native.Nat.{ℕ, _+_}
 use mathlib.Core.Bool.{Bool, true, false}
 use mathlib.Core.List.{List, [], _∷_}
-use lib.ListN.{length, set, replicate}
+use lib.ListN.{length, set, replicate, take}
 use lib.Dec.{eqb}
-use Rattle.parts.specs.Parts.{pick, zeros}
+use Rattle.parts.specs.Parts.{pick, putIn, zeros}
 use Rattle.fdl.specs.Reply.{carried}
 use Rattle.fdl.specs.declared.parameters.Parameters.{Parameters}
 use Rattle.fdl.specs.declared.telegram.Telegram.{Telegram}
@@ -157,13 +157,14 @@ sentNumber Nothing = 0
 sentNumber (Control header) = 5
 sentNumber (Request slot k header) = kindNumber k
 
+-- the payload is what stands at the front of the buffer
 abbrev pub turnOutcome : TurnAnswer → List ℕ → Outcome
-turnOutcome a payload = Turned (eventNumber (a .event)) (a .offline) (sentNumber (a .transmission)) payload
+turnOutcome a buf = Turned (eventNumber (a .event)) (a .offline) (sentNumber (a .transmission)) (take (a .len) buf)
 
 abbrev pub turnBy : Step → Swept → ℕ → List ℕ → World → Done
 turnBy step w time payload now =
     record {
-      outcome = turnOutcome (turnAnswer step w (now .unit) payload (zeros 244)) payload;
+      outcome = turnOutcome (turnAnswer step w (now .unit) payload (zeros 244)) (putIn 0 (length payload) payload (zeros 244));
       world = record { unit = unitTurned step w time (now .unit); inputs = now .inputs };
     }
 
