@@ -1,0 +1,4 @@
+pub mod Calls
+pub mod Words
+pub mod Run
+pub mod Promises
