@@ -1,3 +1,4 @@
 pub mod Ties
 pub mod Steps
 pub mod Wording
+pub mod Stations
