@@ -2,3 +2,4 @@ pub mod Ties
 pub mod Steps
 pub mod Wording
 pub mod Stations
+pub mod Visits
