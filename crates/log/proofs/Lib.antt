@@ -5,3 +5,5 @@ pub mod Stations
 pub mod Visits
 pub mod Lent
 pub mod Units
+pub mod Adding
+pub mod Replying
