@@ -1,35 +1,34 @@
 -- An accepted add keeps what holds of unit and log.
 -- The idea: the new slot was empty, its range lies after all others and is zeroed.
 use mathlib.Core.Path.{_≡_, refl, sym, ap, _∙_, subst}
-use mathlib.Core.Bool.{Bool, true, false, false≢true}
-use mathlib.Core.Logic.{_⊎_, inl, inr, ⊎-elim}
-use mathlib.Core.List.{List, [], _∷_}
+use mathlib.Core.Bool.{true, false, false≢true}
+use mathlib.Core.Logic.{_⊎_, inl, ⊎-elim}
+use mathlib.Core.List.{List}
 use mathlib.Core.Option.{none}
 use Prim.Native.Nat.{ℕ, _+_, _≤_, _<_}
 use native.Mathlib.Omega.{arith}
 use lib.ListN.{length, getD, set, length-replicate}
 use lib.Seq.{getD-set-other}
 use lib.Dec.{eqb}
-use borrow.Author.Tests.{eqb-true, eq-eqb, not-true}
-use Rattle.parts.specs.Parts.{pick, part, roomFor, putIn, zeros}
+use borrow.Author.Tests.{eq-eqb, not-true}
+use Rattle.parts.specs.Parts.{part, roomFor, zeros}
 use Rattle.parts.proofs.Laws.{inside-yes, room-yes, part-put, part-put-other, length-put}
 use Rattle.peripheral.specs.declared.record.Peripheral.{Peripheral}
-use Rattle.peripheral.specs.Record.{blank, newOf, inputImage}
+use Rattle.peripheral.specs.Record.{newOf, inputImage}
 use Rattle.peripheral_set.specs.Marks.{slots, firstEmpty}
 use Rattle.peripheral_set.proofs.Laws.{search-found}
 use Rattle.cycle.specs.declared.refusal.Lent.{Lent}
 use Rattle.cycle.specs.declared.refusal.Lengths.{Lengths}
-use Rattle.cycle.specs.Refusal.{addRefusal}
 use Rattle.cycle.proofs.Laws.{lent-inputs, add-slot, add-room, input-room}
 use Rattle.master.specs.declared.unit.DpMaster.{DpMaster}
 use Rattle.master.specs.declared.add.Addition.{Addition}
-use Rattle.master.specs.Add.{rangesAt, optionsHeld, cleared, lengthsOf, userOf, configOf, unitAdded}
+use Rattle.master.specs.Add.{rangesAt, optionsHeld, cleared, lengthsOf, userOf, configOf}
 use Rattle.valid.specs.Valid.{Valid, balance, occupied}
-use Rattle.log.specs.Calls.{World, lend, back, Call, add, Answer, added, addStep, addNumber, step}
+use Rattle.log.specs.Calls.{World, lend, back, add, added, addStep, addNumber}
 use Rattle.log.specs.Words.{Entry, Note, wasAdded, Frame, slotLog, frameAfter, imageOf}
 use Rattle.log.proofs.Stations.{Told, Fits, told-added}
 use Rattle.log.proofs.Lent.{lent-same, lent-back}
-use Rattle.log.proofs.Units.{Link, Inv, InvAt, at-set}
+use Rattle.log.proofs.Units.{Inv, InvAt, at-set}
 
 -- so many zeros put into a range of the pool
 cleared-part : (at n : ℕ) (pool : List ℕ) → at + n ≤ length pool → part at n (cleared at n pool) ≡ zeros n

@@ -7,3 +7,5 @@ pub mod Lent
 pub mod Units
 pub mod Adding
 pub mod Replying
+pub mod Turning
+pub mod Promised

@@ -1,25 +1,22 @@
 -- An accepted reply keeps what holds of unit and log.
 -- The idea: it is from the slot that the newest turn asked; its balance hears it, its image is written where DataExchanged is reported, and no other changes.
-use mathlib.Core.Path.{_≡_, refl, sym, ap, _∙_, subst}
+use mathlib.Core.Path.{_≡_, refl, sym, ap, _∙_}
 use mathlib.Core.Bool.{Bool, true, false, not, false≢true}
-use mathlib.Core.Logic.{_⊎_, inl, inr, ⊎-elim}
-use mathlib.Core.List.{List, [], _∷_}
-use mathlib.Core.Option.{some}
-use Prim.Native.Nat.{ℕ, _+_, _≤_, _<_}
+use mathlib.Core.Logic.{_⊎_, ⊎-elim}
+use mathlib.Core.List.{List, _∷_}
+use Prim.Native.Nat.{ℕ, _<_}
 use native.Mathlib.Omega.{arith}
-use lib.ListN.{length, getD, set}
+use lib.ListN.{length, set}
 use lib.Dec.{eqb, ltb}
-use borrow.Author.Tests.{eqb-true, eq-eqb, ltb-true, lt-ltb, not-true}
-use Rattle.parts.specs.Parts.{pick}
+use borrow.Author.Tests.{eqb-true, eq-eqb, lt-ltb, not-true}
 use Rattle.parts.proofs.Laws.{by-test}
 use Rattle.fdl.specs.Reply.{carried, usableReply}
 use Rattle.fdl.specs.declared.telegram.Telegram.{Telegram}
 use Rattle.station.specs.declared.state.PeripheralEvent.{PeripheralEvent}
 use Rattle.station.specs.Reply.{isExchanged}
 use Rattle.peripheral.specs.declared.record.Peripheral.{Peripheral}
-use Rattle.peripheral.specs.declared.reply.Reply.{Reply}
-use Rattle.peripheral.specs.Record.{blank, inputImage}
-use Rattle.peripheral.specs.Reply.{withHeard, hearsOf, inputsOf, diagsOf, takes}
+use Rattle.peripheral.specs.Record.{inputImage}
+use Rattle.peripheral.specs.Reply.{withHeard, hearsOf, inputsOf}
 use Rattle.peripheral.proofs.Laws.{inputs-kept, inputs-length, inputs-other, exchanged-image}
 use Rattle.peripheral_set.specs.Marks.{slots, nextAfter}
 use Rattle.cycle.specs.declared.state.DpMasterState.{DpMasterState}
@@ -30,14 +27,14 @@ use Rattle.cycle.proofs.Laws.{passed, after}
 use Rattle.answers.specs.declared.reply.ReplyAnswer.{ReplyAnswer}
 use Rattle.master.specs.declared.unit.DpMaster.{DpMaster}
 use Rattle.master.specs.Unit.{stateIs, balancesAre}
-use Rattle.master.specs.Reply.{openBalance, replyAt, replyAnswer, unitReplied}
+use Rattle.master.specs.Reply.{openBalance, replyAt}
 use Rattle.valid.specs.Valid.{Valid, balance, occupied}
 use Rattle.valid.proofs.Balances.{marked-below}
-use Rattle.log.specs.Calls.{World, lend, back, Call, reply, Answer, replied, replyStep, replyNumber, step}
-use Rattle.log.specs.Words.{Entry, Note, got, Place, Frame, target, slotLog, placeNext, frameAfter, frameOf, imageOf, noteAt}
+use Rattle.log.specs.Calls.{World, lend, back, reply, replied, replyStep, replyNumber}
+use Rattle.log.specs.Words.{Entry, Note, got, Place, slotLog, placeNext, imageOf}
 use Rattle.log.proofs.Stations.{Told, told-replied}
 use Rattle.log.proofs.Lent.{lent-same, lent-back}
-use Rattle.log.proofs.Units.{unitFrame, Link, Inv, InvAt, at-set}
+use Rattle.log.proofs.Units.{unitFrame, Inv, InvAt, at-set}
 
 two : _≡_ {A = ℕ} 2 0 → ⊥
 two e = omega arith

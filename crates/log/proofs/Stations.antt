@@ -1,11 +1,11 @@
 -- One station and its own notes: what its state says of the notes is kept by each thing that can happen to it.
 -- The idea: the notes come into it as a few Bools (parameters, configuration, ready, due), and each row of the tables of visits and replies is one line.
-use mathlib.Core.Path.{_≡_, refl, sym, ap, _∙_, subst}
+use mathlib.Core.Path.{_≡_, refl, sym, _∙_, subst}
 use Prim.Native.Nat.{ℕ}
-use mathlib.Core.Bool.{Bool, true, false, not, _&&_, _||_, false≢true}
-use mathlib.Core.List.{List, [], _∷_}
+use mathlib.Core.Bool.{Bool, true, false, not, _&&_, _||_}
+use mathlib.Core.List.{List, _∷_}
 use mathlib.Core.Option.{Option, none, some}
-use lib.Dec.{T, eqb, ltb, leb}
+use lib.Dec.{T, eqb, ltb}
 use lib.ListN.{length}
 use borrow.Author.Tests.{eqb-true, ltb-false, le-leb}
 use Rattle.parts.specs.Parts.{pick}
@@ -17,7 +17,7 @@ use Rattle.fdl.specs.declared.telegram.Telegram.{Telegram}
 use Rattle.fdl.specs.declared.telegram.Telegram.the-variants.{ShortConfirmation, Data as DataReply, Token, Request as RequestTelegram}
 use Rattle.telegrams.specs.declared.request.Request.{Request}
 use Rattle.telegrams.specs.declared.request.Request.the-variants.{Diagnosis, Parameters, Configuration, Data}
-use Rattle.telegrams.specs.Diagnosis.{taken, flag, diagnosisOf}
+use Rattle.telegrams.specs.Diagnosis.{taken, flag}
 use Rattle.station.specs.declared.record.Station.{Station}
 use Rattle.station.specs.declared.reply.Heard.{Heard}
 use Rattle.station.specs.declared.visit.Visited.{Visited}
@@ -28,10 +28,10 @@ use Rattle.station.specs.declared.state.PeripheralEvent.the-variants.{Nothing, 
 use Rattle.station.specs.State.{stateOf}
 use Rattle.station.specs.Record.{newOf, at, counting, cycling, dueIs, tookOf}
 use Rattle.station.specs.Visit.{wishIn, wishOf, visitedOf}
-use Rattle.station.specs.Reply.{hears, isShort, acknowledgedOf, foundOf, byFlags, validatedOf, diagnosedOf, exchangedOf, statusReply, dataReply, exchangeOf, heardIn, heardOf, awaitsData}
+use Rattle.station.specs.Reply.{hears, isShort, acknowledgedOf, foundOf, byFlags, validatedOf, diagnosedOf, exchangedOf, statusReply, exchangeOf, heardIn, heardOf, awaitsData}
 use Rattle.station.proofs.Visits.{falls, asksData, wish-falls, wish-data}
 use Rattle.peripheral.specs.declared.record.Peripheral.{Peripheral}
-use Rattle.peripheral.specs.Reply.{stationTook, storedLength, isImage, hearsOf}
+use Rattle.peripheral.specs.Reply.{stationTook, isImage, hearsOf}
 use Rattle.log.specs.Words.{Note, wasAdded, readdressed, wished, wentOffline, asked, got, isKind, lastAsked, judged, spotless, hasStatus, isError, isDiagnosed, dueOf}
 use Rattle.log.proofs.Wording.{hasParam, hasConfig, ready}
 

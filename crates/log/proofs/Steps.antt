@@ -1,13 +1,12 @@
 -- Refused calls leave no trace, and a unit is `Valid` after any calls.
 -- The idea: where a call is refused every field of what it leaves is the old one; and each call's contract holds of what `step` leaves, so the laws of `valid` apply.
-use mathlib.Core.Path.{_≡_, refl, sym, ap, _∙_, subst}
+use mathlib.Core.Path.{_≡_, refl, sym, ap, _∙_}
 use mathlib.Core.Bool.{Bool, true, false, false≢true}
 use mathlib.Core.List.{List, [], _∷_}
 use Prim.Native.Nat.{ℕ}
-use lib.ListN.{length, take-append-drop}
+use lib.ListN.{take-append-drop}
 use lib.Dec.{eqb}
 use Rattle.parts.specs.Parts.{pick}
-use Rattle.parts.proofs.Laws.{by-test}
 use Rattle.fdl.specs.declared.parameters.Parameters.{Parameters}
 use Rattle.fdl.specs.declared.telegram.Telegram.{Telegram}
 use Rattle.peripheral.specs.declared.record.Peripheral.{Peripheral}
@@ -34,7 +33,6 @@ use Rattle.valid.proofs.Turning.{turn-valid}
 use Rattle.valid.proofs.Replying.{reply-valid}
 use Rattle.valid.proofs.Adding.{add-valid}
 use Rattle.log.specs.Calls.{Pools, World, lend, back, Call, add, enter, turn, reply, reset, wish, write, hand, accepted, Outcome, addStep, turnStep, replyStep, doneStep, writeStep, addNumber, turnNumber, replyNumber, writeNumber, handNumber, turnPayloadAt, step}
-use Rattle.log.specs.Words.{Entry}
 use Rattle.log.specs.Run.{Run, after, run, acceptedOf}
 use Rattle.log.specs.Promises.{RefusedSame, NoTrace, AlwaysValid}
 

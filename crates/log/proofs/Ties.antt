@@ -1,17 +1,14 @@
 -- Whatever a contract allows is what `step` says: for each call, over the parts of the pools that it is lent.
 -- The idea: `step` is made of the right-hand sides of the contracts, so each equation of a contract is one field.
-use mathlib.Core.Path.{_≡_, refl, sym, ap, _∙_}
+use mathlib.Core.Path.{_≡_, refl}
 use Prim.Native.Nat.{ℕ}
 use mathlib.Core.Bool.{Bool}
 use mathlib.Core.List.{List}
-use lib.ListN.{length}
 use Rattle.fdl.specs.declared.telegram.Telegram.{Telegram}
 use Rattle.peripheral_set.specs.declared.PeripheralHandle.{PeripheralHandle}
 use Rattle.cycle.specs.declared.refusal.Lent.{Lent}
 use Rattle.cycle.specs.declared.state.OperatingState.{OperatingState}
 use Rattle.cycle.specs.State.{entered}
-use Rattle.answers.specs.declared.turn.TurnAnswer.{TurnAnswer}
-use Rattle.answers.specs.declared.reply.ReplyAnswer.{ReplyAnswer}
 use Rattle.master.specs.declared.unit.DpMaster.{DpMaster}
 use Rattle.master.specs.declared.unit.Done.{Done}
 use Rattle.master.specs.declared.add.Addition.{Addition}
@@ -24,7 +21,7 @@ use Rattle.master.specs.Turn.{Turned}
 use Rattle.master.specs.Reply.{Received}
 use Rattle.master.specs.Handle.{resetDone, wishDone}
 use Rattle.access.specs.Lookup.{Wrote}
-use Rattle.log.specs.Calls.{Pools, World, lend, back, Call, add, enter, turn, reply, reset, wish, write, hand, Answer, number, added, turned, replied, Outcome, unitIs, step}
+use Rattle.log.specs.Calls.{World, lend, back, add, enter, turn, reply, reset, wish, write, number, added, turned, replied, unitIs, step}
 
 module _ (w : World) where
   pub add-tied : (a : Addition) (user config : List ℕ) (lent : Lent) (outSetup outInputs outOutputs outDiags : List ℕ) (r : Added)

@@ -1,43 +1,37 @@
 -- The unit, its pools and the log: what holds of them together is kept by each accepted call.
 -- The idea: one invariant a slot (its station and its notes, its image and its notes) and one a unit (frame, open request); a call writes one slot, or visits them all.
-use mathlib.Core.Path.{_≡_, refl, sym, ap, _∙_, subst}
-use mathlib.Core.Bool.{Bool, true, false, not, _&&_, _||_, false≢true}
-use mathlib.Core.Logic.{_⊎_, inl, inr, ⊎-elim}
-use mathlib.Core.List.{List, [], _∷_}
-use mathlib.Core.Option.{Option, none, some}
-use Prim.Native.Nat.{ℕ, _+_, _-_, _≤_, _<_}
+use mathlib.Core.Path.{_≡_, refl, sym, ap, subst}
+use mathlib.Core.Bool.{Bool, true, false, false≢true}
+use mathlib.Core.List.{List, _∷_}
+use mathlib.Core.Option.{none, some}
+use Prim.Native.Nat.{ℕ, _-_, _<_}
 use native.Mathlib.Omega.{arith}
-use lib.ListN.{length, getD, set, length-set}
+use lib.ListN.{length, getD, set}
 use lib.Seq.{getD-set-same, getD-set-other}
-use lib.Dec.{T, eqb, ltb, leb}
-use borrow.Author.Tests.{eqb-true, eqb-false, eq-eqb, ne-eqb, ltb-true, ltb-false, lt-ltb, not-true}
-use Rattle.parts.specs.Parts.{pick, part, inside, roomFor, putIn, zeros}
-use Rattle.parts.proofs.Laws.{by-test, and-left, and-right}
-use Rattle.fdl.specs.declared.parameters.Parameters.{Parameters}
-use Rattle.telegrams.specs.declared.request.Request.{Request}
-use Rattle.station.specs.declared.record.Station.{Station}
+use lib.Dec.{eqb, ltb}
+use borrow.Author.Tests.{eqb-true, eqb-false, lt-ltb}
+use Rattle.parts.specs.Parts.{pick}
+use Rattle.parts.proofs.Laws.{by-test, and-right}
 use Rattle.station.specs.Record.{dueIs}
 use Rattle.peripheral.specs.declared.record.Peripheral.{Peripheral}
-use Rattle.peripheral.specs.Record.{blank, newOf, resetOf, stationIs, inputImage}
+use Rattle.peripheral.specs.Record.{blank, resetOf, stationIs, inputImage}
 use Rattle.peripheral_set.specs.declared.PeripheralHandle.{PeripheralHandle}
 use Rattle.peripheral_set.specs.Marks.{slots, isOccupied, handleRefusal}
-use Rattle.cycle.specs.declared.state.DpMasterState.{DpMasterState}
 use Rattle.cycle.specs.declared.state.OperatingState.{OperatingState}
 use Rattle.cycle.specs.declared.state.OperatingState.the-variants.{Stop, Clear, Operate}
 use Rattle.cycle.specs.Seen.{indexOf}
-use Rattle.cycle.specs.State.{operatingNumber, operatingOf, entered, placed, closedFor}
+use Rattle.cycle.specs.State.{operatingNumber, operatingOf, entered, placed}
 use Rattle.cycle.specs.Refusal.{addressRefusal}
 use Rattle.cycle.proofs.Laws.{or-first}
 use Rattle.master.specs.declared.unit.DpMaster.{DpMaster}
-use Rattle.master.specs.Unit.{stateIs, balancesAre, balanceAt}
+use Rattle.master.specs.Unit.{stateIs, balancesAre}
 use Rattle.master.specs.Handle.{resetRefusal, resetDone, wishDone}
 use Rattle.valid.specs.Valid.{Valid, balance, occupied}
 use Rattle.valid.proofs.Balances.{marked-below}
 use Rattle.valid.proofs.Calls.{handle-below}
-use Rattle.log.specs.Calls.{Pools, World, lend, Call, add, enter, turn, reply, reset, wish, write, hand, Answer, Outcome, unitIs, writeStep, doneStep, step}
-use Rattle.log.specs.Words.{Entry, Note, wasAdded, readdressed, wished, wentOffline, asked, got, Place, Frame, target, noteIf, slotLog, frameAfter, frameOf, occupiedIn, lastAsked, imageOf}
+use Rattle.log.specs.Calls.{World, lend, Call, enter, reset, wish, write, hand, Answer, unitIs, doneStep}
+use Rattle.log.specs.Words.{Entry, Note, readdressed, wished, Frame, target, noteIf, slotLog, frameAfter, frameOf, imageOf}
 use Rattle.log.specs.Promises.{imageIn}
-use Rattle.log.proofs.Steps.{valid-step}
 use Rattle.log.proofs.Stations.{Told, Fits, told-reset, told-wished, fits-wished}
 
 -- what the log says of the unit's own state

@@ -5,15 +5,15 @@ use mathlib.Core.Bool.{Bool, true, false, _&&_, false≢true}
 use mathlib.Core.Logic.{_⊎_, inl, inr, ⊎-elim}
 use mathlib.Core.List.{List}
 use mathlib.Core.Option.{Option, none, some}
-use Prim.Native.Nat.{ℕ, zero, suc, _+_, _-_, _≤_, _<_, _^_, max}
+use Prim.Native.Nat.{ℕ, zero, suc, _+_, _-_, _≤_, _<_}
 use native.Mathlib.Omega.{arith}
 use lib.ListN.{length, getD, set, length-set}
 use lib.Seq.{getD-set-same, getD-set-other}
 use lib.Dec.{eqb, ltb, leb}
 use lib.Bits.{bitOr}
-use borrow.Author.Tests.{eqb-true, ne-eqb, eq-eqb, lt-ltb, le-leb, lt-leb, leb-true, leb-false}
+use borrow.Author.Tests.{ne-eqb, eq-eqb, lt-ltb, le-leb, lt-leb, leb-true, leb-false}
 use Rattle.parts.specs.Parts.{pick}
-use Rattle.parts.proofs.Laws.{by-test, and-left, and-right}
+use Rattle.parts.proofs.Laws.{by-test, and-right}
 use Rattle.telegrams.specs.declared.request.Request.{Request}
 use Rattle.station.specs.declared.visit.Visited.{Visited}
 use Rattle.station.specs.declared.visit.Visited.the-variants.{Sent as Sends, Fell, Skipped}
@@ -28,7 +28,7 @@ use Rattle.cycle.specs.declared.seen.Sent.the-variants.{Nothing, To}
 use Rattle.cycle.specs.Seen.{bitAt, nothingSeen, seenBy, idle}
 use Rattle.master.specs.Turn.{Swept, visitedBy, sweepFrom}
 use Rattle.master.proofs.Bits.{bit, or-bit, pow-bit-same, pow-bit-below, pow-bit-above, zero-bit}
-use Rattle.master.proofs.Sweep.{sweep-skip, sweep-visit, sweep-stopped, sweep-none}
+use Rattle.master.proofs.Sweep.{sweep-skip, sweep-visit, sweep-stopped}
 
 -- the request that went to slot s
 abbrev pub kindSent : ℕ → Sent → Option Request

@@ -1,6 +1,5 @@
 -- The wordings by positions and the walks from the oldest note say the same.
 -- The idea: a walk gains one note at a time, and each position moves on by one.
-use mathlib.Core.Path.{_≡_, refl}
 use mathlib.Core.Logic.{_↔_, _⊎_, inl, inr}
 use Prim.Native.Nat.{ℕ, zero, suc, _≤_, _<_}
 use native.Mathlib.Nat.{le-of-suc-le-suc, not-suc-le-zero}

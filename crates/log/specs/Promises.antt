@@ -4,16 +4,16 @@
 use mathlib.Core.Path.{_≡_}
 use mathlib.Core.Logic.{_↔_}
 use Prim.Native.Nat.{ℕ}
-use mathlib.Core.Bool.{Bool, true, false, not}
+use mathlib.Core.Bool.{Bool, false, not}
 use mathlib.Core.List.{List}
 use lib.Dec.{T}
 use Rattle.fdl.specs.declared.parameters.Parameters.{Parameters}
 use Rattle.peripheral.specs.Record.{inputImage}
 use Rattle.answers.specs.declared.turn.TurnAnswer.{TurnAnswer}
 use Rattle.valid.specs.Valid.{Valid, Apart, balance}
-use Rattle.log.specs.Calls.{Call, turn, Answer, Pools, World, accepted, refusal, lend, step}
+use Rattle.log.specs.Calls.{Call, turn, Pools, World, accepted, lend, step}
 use Rattle.log.specs.Words.{turnOf, reportedOffline, slotLog, occupiedIn, reached, imageOf, Due, Ready, asksData}
-use Rattle.log.specs.Run.{Run, run, acceptedOf}
+use Rattle.log.specs.Run.{run, acceptedOf}
 
 -- the input image of a slot: its range of the part of the input pool that a call has to be lent
 abbrev pub imageIn : World → ℕ → List ℕ

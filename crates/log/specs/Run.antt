@@ -1,12 +1,10 @@
 -- Runs: any calls on a unit just created, and the log that they leave. The calls are listed newest first, as the log is.
 -- From 01, "Words of the log": the log holds accepted calls with their answers.
-use Prim.Native.Nat.{ℕ}
-use mathlib.Core.Bool.{Bool}
 use mathlib.Core.List.{List, [], _∷_}
 use Rattle.parts.specs.Parts.{pick}
 use Rattle.fdl.specs.declared.parameters.Parameters.{Parameters}
 use Rattle.master.specs.Unit.{createdOf}
-use Rattle.log.specs.Calls.{Call, Answer, Pools, World, Outcome, accepted, step}
+use Rattle.log.specs.Calls.{Call, Pools, World, Outcome, accepted, step}
 use Rattle.log.specs.Words.{Entry}
 
 pub record Run : Type 0 where

@@ -1,6 +1,5 @@
 -- The log, and each word of it as a function of the log alone: nothing here names a unit, a pool, a visit or `step`.
 -- From 01, "Words of the log". A log is newest first, and so are the notes that it holds of one slot.
-use mathlib.Core.Path.{_≡_}
 use Prim.Native.Nat.{ℕ, _<_, _≤_, _/_, _%_, _^_}
 use mathlib.Core.Bool.{Bool, true, false, not, _&&_, _||_}
 use mathlib.Core.List.{List, [], _∷_}
