@@ -17,7 +17,7 @@ use Rattle.fdl.specs.declared.telegram.Telegram.{Telegram}
 use Rattle.fdl.specs.declared.telegram.Telegram.the-variants.{ShortConfirmation, Data as DataReply, Token, Request as RequestTelegram}
 use Rattle.telegrams.specs.declared.request.Request.{Request}
 use Rattle.telegrams.specs.declared.request.Request.the-variants.{Diagnosis, Parameters, Configuration, Data}
-use Rattle.telegrams.specs.Diagnosis.{taken, flag}
+use Rattle.telegrams.specs.Diagnosis.{flag, diagnosisOf, taken}
 use Rattle.station.specs.declared.record.Station.{Station}
 use Rattle.station.specs.declared.reply.Heard.{Heard}
 use Rattle.station.specs.declared.visit.Visited.{Visited}
@@ -32,7 +32,7 @@ use Rattle.station.specs.Reply.{hears, isShort, acknowledgedOf, foundOf, byFlag
 use Rattle.station.proofs.Visits.{falls, asksData, wish-falls, wish-data}
 use Rattle.peripheral.specs.declared.record.Peripheral.{Peripheral}
 use Rattle.peripheral.specs.Reply.{stationTook, isImage, hearsOf}
-use Rattle.log.specs.Words.{Note, wasAdded, readdressed, wished, wentOffline, asked, got, isKind, lastAsked, judged, spotless, hasStatus, isError, isDiagnosed, dueOf}
+use Rattle.log.specs.Words.{Note, wasAdded, readdressed, wished, wentOffline, asked, got, isKind, lastAsked, spotless, confirms, denies, warns, cleans, isError, isDiagnosed, dueOf}
 use Rattle.log.proofs.Wording.{hasParam, hasConfig, ready}
 
 -- ---- what is said
@@ -196,7 +196,7 @@ asked-when limit user config s l i f =
 
 -- what a reply leaves, where d was due, and of the reply: a, c parameters and configuration acknowledged, n "SAP not enabled", j status 10, q clean
 record Kept (h : Heard) (a c n j q hp hc rd d : Bool) : Type 0 where
-  due-ok : h .station .«diag_needed» ≡ pick (isDiagnosed (h .event)) false (j || d)
+  due-ok : h .station .«diag_needed» ≡ not (isDiagnosed (h .event)) && (j || d)
   phase-ok : T (phase (stateOf (h .station .state)) (not (isError (h .event)) && (a || hp)) (not (isError (h .event)) && (hc || (hp && c))) (not (isError (h .event)) && (not n && (rd || (hc && q)))))
 
 -- a state that stays
@@ -298,9 +298,8 @@ ten-is : (n : ℕ) → dueStatus (statusOf n) ≡ eqb n 10
 ten-is n = by-test (eqb n 10) (λ e. let q : n ≡ 10 = eqb-true n 10 e in rw q refl) (λ e. no-ten n e ∙ sym e)
 
 -- the words of a reply to a request of kind k
-abbrev KeptBy : Heard → Option Request → Telegram → (q hp hc rd d : Bool) → Type 0
-KeptBy h k t q hp hc rd d =
-    Kept h (isKind Parameters k && isShort t) (isKind Configuration k && isShort t) (judged k d && hasStatus 3 t) (judged k d && hasStatus 10 t) (isKind Diagnosis k && q) hp hc rd d
+abbrev KeptBy : Heard → Option Request → Telegram → List ℕ → (hp hc rd d : Bool) → Type 0
+KeptBy h k t payload hp hc rd d = Kept h (confirms Parameters k t) (confirms Configuration k t) (denies k d t) (warns k d t) (cleans k t payload) hp hc rd d
 
 module _ (p s : Station) (x : PeripheralState) (px : stateOf (p .state) ≡ x) (sx : stateOf (s .state) ≡ x) (keep : (hp hc rd : Bool) → T (hc && rd) → T (phase x hp hc rd)) where
   by-status : (n : ℕ) (b hp : Bool) → p .«diag_needed» ≡ false → s .«diag_needed» ≡ false
@@ -310,20 +309,20 @@ module _ (p s : Station) (x : PeripheralState) (px : stateOf (p .state) ≡ x) (
       (subst (λ (y : Bool). Kept (statusReply (statusOf n) b (counting 0 (cycling p))) false false (refusesData (statusOf n)) y false hp true true false) (ten-is n)
       (status p s x false px sx pd sd keep (statusOf n) b hp refl))
 
-  in-exchange : (d : Bool) (t : Telegram) (k : Option Request) (b empty fit q hp hc rd : Bool) → p .«diag_needed» ≡ d → s .«diag_needed» ≡ d
-      → T (isKind Data k || (isKind Diagnosis k && d)) → T (hc && rd) → KeptBy (exchangeOf d t b s empty fit p) k t q hp hc rd d
-  in-exchange d t k b empty fit q hp false rd pd sd f h = absurd h
-  in-exchange d t k b empty fit q hp true false pd sd f h = absurd h
-  in-exchange d t none b empty fit q hp true true pd sd f h = absurd f
-  in-exchange d t (some Parameters) b empty fit q hp true true pd sd f h = absurd f
-  in-exchange d t (some Configuration) b empty fit q hp true true pd sd f h = absurd f
-  in-exchange true t (some Diagnosis) b empty fit q hp true true pd sd f h = diagnosed p s x true px sx pd sd keep b false false q hp refl
-  in-exchange false t (some Diagnosis) b empty fit q hp true true pd sd f h = absurd f
-  in-exchange true t (some Data) b empty fit q hp true true pd sd f h = diagnosed p s x true px sx pd sd keep b false false false hp refl
-  in-exchange false ShortConfirmation (some Data) b empty fit q hp true true pd sd f h = short p s x false px sx pd sd keep empty hp refl
-  in-exchange false (DataReply dsap ssap n) (some Data) b empty fit q hp true true pd sd f h = by-status n fit hp pd sd
-  in-exchange false Token (some Data) b empty fit q hp true true pd sd f h = record { due-ok = pd; phase-ok = stays (p .state) x _ _ _ px (keep _ _ _ tt) }
-  in-exchange false RequestTelegram (some Data) b empty fit q hp true true pd sd f h = record { due-ok = pd; phase-ok = stays (p .state) x _ _ _ px (keep _ _ _ tt) }
+  in-exchange : (d : Bool) (t : Telegram) (k : Option Request) (payload : List ℕ) (b empty fit hp hc rd : Bool) → p .«diag_needed» ≡ d → s .«diag_needed» ≡ d
+      → T (isKind Data k || (isKind Diagnosis k && d)) → T (hc && rd) → KeptBy (exchangeOf d t b s empty fit p) k t payload hp hc rd d
+  in-exchange d t k payload b empty fit hp false rd pd sd f h = absurd h
+  in-exchange d t k payload b empty fit hp true false pd sd f h = absurd h
+  in-exchange d t none payload b empty fit hp true true pd sd f h = absurd f
+  in-exchange d t (some Parameters) payload b empty fit hp true true pd sd f h = absurd f
+  in-exchange d t (some Configuration) payload b empty fit hp true true pd sd f h = absurd f
+  in-exchange true t (some Diagnosis) payload b empty fit hp true true pd sd f h = diagnosed p s x true px sx pd sd keep b false false (spotless t payload) hp refl
+  in-exchange false t (some Diagnosis) payload b empty fit hp true true pd sd f h = absurd f
+  in-exchange true t (some Data) payload b empty fit hp true true pd sd f h = diagnosed p s x true px sx pd sd keep b false false false hp refl
+  in-exchange false ShortConfirmation (some Data) payload b empty fit hp true true pd sd f h = short p s x false px sx pd sd keep empty hp refl
+  in-exchange false (DataReply dsap ssap n) (some Data) payload b empty fit hp true true pd sd f h = by-status n fit hp pd sd
+  in-exchange false Token (some Data) payload b empty fit hp true true pd sd f h = record { due-ok = pd; phase-ok = stays (p .state) x _ _ _ px (keep _ _ _ tt) }
+  in-exchange false RequestTelegram (some Data) payload b empty fit hp true true pd sd f h = record { due-ok = pd; phase-ok = stays (p .state) x _ _ _ px (keep _ _ _ tt) }
 
 kind-is : (q : Request) (k : Option Request) → T (isKind q k) → k ≡ some q
 kind-is q none h = absurd h
@@ -344,42 +343,44 @@ kind-is Data (some Parameters) h = absurd h
 kind-is Data (some Configuration) h = absurd h
 kind-is Data (some Data) h = refl
 
--- clean, as the flags of the taken diagnosis say
-abbrev cleanBy : Bool → ℕ → Bool
-cleanBy b f = b && not (flag 0x0040 f) && not (flag 0x0004 f) && not (flag 0x0100 f) && not (flag 0x0002 f)
+module _ (p s : Station) (t : Telegram) (payload : List ℕ) (d empty fit hp hc rd : Bool) (pd : p .«diag_needed» ≡ d) (sd : s .«diag_needed» ≡ d) (fl : s .diag .flags ≡ diagnosisOf payload .flags) where
+  b : Bool
+  b = taken t (length payload)
 
-module _ (p s : Station) (t : Telegram) (d b empty fit hp hc rd : Bool) (pd : p .«diag_needed» ≡ d) (sd : s .«diag_needed» ≡ d) where
+  validated : T (phase ValidateConfig hp hc rd) → stateOf (p .state) ≡ ValidateConfig → stateOf (s .state) ≡ ValidateConfig → Kept (validatedOf b s p) false false false false (spotless t payload) hp hc rd d
+  unfolding b
+  validated h px sx =
+      subst (λ (f : ℕ). Kept (validatedOf b s p) false false false false (b && not (flag 0x0040 f) && not (flag 0x0004 f) && not (flag 0x0100 f) && not (flag 0x0002 f)) hp hc rd d) fl
+      (in-validate p s ValidateConfig d px sx pd sd b hp hc rd refl h)
+
   -- the answers that fit the state
-  in-state : (x : PeripheralState) (k : Option Request) → stateOf (p .state) ≡ x → stateOf (s .state) ≡ x → T (fits x k d) → T (phase x hp hc rd)
-      → KeptBy (heardIn x t b s empty fit p) k t (cleanBy b (s .diag .flags)) hp hc rd d
+  in-state : (x : PeripheralState) (k : Option Request) → stateOf (p .state) ≡ x → stateOf (s .state) ≡ x → T (fits x k d) → T (phase x hp hc rd) → KeptBy (heardIn x t b s empty fit p) k t payload hp hc rd d
   in-state Offline k px sx f h =
-      subst (λ (y : Option Request). KeptBy (foundOf b s p) y t (cleanBy b (s .diag .flags)) hp hc rd d) (sym (kind-is Diagnosis k f))
-      (in-offline p s Offline d px sx pd sd b (cleanBy b (s .diag .flags)) hp hc rd refl h)
+      subst (λ (y : Option Request). KeptBy (foundOf b s p) y t payload hp hc rd d) (sym (kind-is Diagnosis k f)) (in-offline p s Offline d px sx pd sd b (spotless t payload) hp hc rd refl h)
   in-state WaitForParam k px sx f h =
-      subst (λ (y : Option Request). KeptBy (acknowledgedOf (isShort t) WaitForConfig p) y t (cleanBy b (s .diag .flags)) hp hc rd d) (sym (kind-is Parameters k f))
+      subst (λ (y : Option Request). KeptBy (acknowledgedOf (isShort t) WaitForConfig p) y t payload hp hc rd d) (sym (kind-is Parameters k f))
       (in-param p s WaitForParam d px sx pd sd (isShort t) hp hc rd refl h)
   in-state WaitForConfig k px sx f h =
-      subst (λ (y : Option Request). KeptBy (acknowledgedOf (isShort t) ValidateConfig p) y t (cleanBy b (s .diag .flags)) hp hc rd d) (sym (kind-is Configuration k f))
+      subst (λ (y : Option Request). KeptBy (acknowledgedOf (isShort t) ValidateConfig p) y t payload hp hc rd d) (sym (kind-is Configuration k f))
       (in-config p s WaitForConfig d px sx pd sd (isShort t) hp hc rd refl h)
   in-state ValidateConfig k px sx f h =
-      subst (λ (y : Option Request). KeptBy (validatedOf b s p) y t (cleanBy b (s .diag .flags)) hp hc rd d) (sym (kind-is Diagnosis k f))
-      (in-validate p s ValidateConfig d px sx pd sd b hp hc rd refl h)
+      subst (λ (y : Option Request). KeptBy (validatedOf b s p) y t payload hp hc rd d) (sym (kind-is Diagnosis k f)) (validated h px sx)
   in-state PreDataExchange k px sx f h =
-      subst (λ (y : Bool). KeptBy (exchangeOf y t b s empty fit p) k t (cleanBy b (s .diag .flags)) hp hc rd d) (sym pd)
-      (in-exchange p s PreDataExchange px sx (λ hp hc rd z. z) d t k b empty fit (cleanBy b (s .diag .flags)) hp hc rd pd sd f h)
+      subst (λ (y : Bool). KeptBy (exchangeOf y t b s empty fit p) k t payload hp hc rd d) (sym pd)
+      (in-exchange p s PreDataExchange px sx (λ hp hc rd z. z) d t k payload b empty fit hp hc rd pd sd f h)
   in-state DataExchange k px sx f h =
-      subst (λ (y : Bool). KeptBy (exchangeOf y t b s empty fit p) k t (cleanBy b (s .diag .flags)) hp hc rd d) (sym pd)
-      (in-exchange p s DataExchange px sx (λ hp hc rd z. z) d t k b empty fit (cleanBy b (s .diag .flags)) hp hc rd pd sd f h)
+      subst (λ (y : Bool). KeptBy (exchangeOf y t b s empty fit p) k t payload hp hc rd d) (sym pd)
+      (in-exchange p s DataExchange px sx (λ hp hc rd z. z) d t k payload b empty fit hp hc rd pd sd f h)
 
-told-kept : (h : Heard) (t : Telegram) (payload : List ℕ) (l : List Note) → KeptBy h (lastAsked l) t (spotless t payload) (hasParam l) (hasConfig l) (ready l) (dueOf l)
+told-kept : (h : Heard) (t : Telegram) (payload : List ℕ) (l : List Note) → KeptBy h (lastAsked l) t payload (hasParam l) (hasConfig l) (ready l) (dueOf l)
     → Told (h .station) (got t payload (h .event) ∷ l)
 told-kept h t payload l k = record { due-is = k .due-ok; in-phase = k .phase-ok }
 
 -- a reply to the request that is open
 pub told-replied : (t : Telegram) (p : Peripheral) (payload inputs diags : List ℕ) (l : List Note) → Fits (p .station) l → Told (p .station) l
     → Told (hearsOf t p payload inputs diags .station) (got t payload (hearsOf t p payload inputs diags .event) ∷ l)
-unfolding hearsOf heardOf stationTook tookOf
+unfolding hearsOf heardOf stationTook tookOf b
 told-replied t p payload inputs diags l f i =
     told-kept (hearsOf t p payload inputs diags) t payload l
-    (in-state (p .station) (stationTook p payload diags) t (dueOf l) (taken t (length payload)) (eqb (p .ranges .«input_len») 0) (isImage p payload inputs) (hasParam l) (hasConfig l) (ready l)
-    (i .due-is) (i .due-is) (stateOf (p .station .state)) (lastAsked l) refl refl (subst (λ (d : Bool). T (fits (stateOf (p .station .state)) (lastAsked l) d)) (i .due-is) f) (i .in-phase))
+    (in-state (p .station) (stationTook p payload diags) t payload (dueOf l) (eqb (p .ranges .«input_len») 0) (isImage p payload inputs) (hasParam l) (hasConfig l) (ready l)
+    (i .due-is) (i .due-is) refl (stateOf (p .station .state)) (lastAsked l) refl refl (subst (λ (d : Bool). T (fits (stateOf (p .station .state)) (lastAsked l) d)) (i .due-is) f) (i .in-phase))

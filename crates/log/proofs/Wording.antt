@@ -12,7 +12,8 @@ use mathlib.Core.Option.{Option, none, some}
 use Rattle.parts.specs.Parts.{pick}
 use Rattle.telegrams.specs.declared.request.Request.{Request}
 use Rattle.telegrams.specs.declared.request.Request.the-variants.{Diagnosis, Parameters, Configuration, Data}
-use Rattle.log.specs.Words.{Note, wasAdded, readdressed, wished, wentOffline, asked, got, isKind, lastAsked, judged, spotless, hasStatus, isDiagnosed, dueOf, fall, acknowledged, clean, notEnabled, makesDue, endsDue, Due, Ready}
+use Rattle.fdl.specs.declared.telegram.Telegram.{Telegram}
+use Rattle.log.specs.Words.{Note, wasAdded, readdressed, wished, wentOffline, asked, got, lastAsked, denies, cleans, makesDue, endsDue, dueOf, fall, acknowledged, clean, notEnabled, dueMade, dueEnded, Due, Ready}
 
 -- ---- the walks
 
@@ -173,12 +174,12 @@ has-config (x ∷ l) zero (suc p) q a b u =
 has-config (x ∷ l) (suc c) (suc p) q a b u = and-i (not (fall (x ∷ l))) _ (u 0 (omega arith)) (or-l (hasConfig l) (hasParam l && acknowledged Configuration (x ∷ l)) (has-config l c p (le-of-suc-le-suc q) a b (λ i q. u (suc i) (omega arith))))
 
 -- one reply is not both: a clean diagnosis answers a diagnosis request, "SAP not enabled" a data request
-not-both : (k : Option Request) (c d t : Bool) → T (isKind Diagnosis k && c) → T (not (judged k d && t))
-not-both none c d t h = absurd h
-not-both (some Diagnosis) c d t h = tt
-not-both (some Parameters) c d t h = absurd h
-not-both (some Configuration) c d t h = absurd h
-not-both (some Data) c d t h = absurd h
+not-both : (k : Option Request) (due : Bool) (t : Telegram) (payload : List ℕ) → T (cleans k t payload) → T (not (denies k due t))
+not-both none due t payload h = absurd h
+not-both (some Diagnosis) due t payload h = tt
+not-both (some Parameters) due t payload h = absurd h
+not-both (some Configuration) due t payload h = absurd h
+not-both (some Data) due t payload h = absurd h
 
 clean-enabled : (l : List Note) → T (clean l) → T (not (notEnabled l))
 clean-enabled [] h = tt
@@ -187,7 +188,7 @@ clean-enabled (readdressed ∷ l) h = tt
 clean-enabled (wished ∷ l) h = tt
 clean-enabled (wentOffline ∷ l) h = tt
 clean-enabled (asked k ∷ l) h = tt
-clean-enabled (got t payload e ∷ l) h = not-both (lastAsked l) (spotless t payload) (dueOf l) (hasStatus 3 t) h
+clean-enabled (got t payload e ∷ l) h = not-both (lastAsked l) (dueOf l) t payload h
 
 is-ready : (l : List Note) (d c p : ℕ) → d < c → c < p → T (clean (drop d l)) → T (acknowledged Configuration (drop c l)) → T (acknowledged Parameters (drop p l)) → Upright p l →
     ((i : ℕ) → i < d → T (not (notEnabled (drop i l)))) → T (ready l)
@@ -209,71 +210,37 @@ wording l = (to-positions l, λ q. is-ready l (q .d) (q .c) (q .p) (q .d<c) (q .
 
 -- ---- diagnosis due
 
-later : (x : Note) (l : List Note) → T (not (endsDue (x ∷ l))) → Due l → Due (x ∷ l)
+later : (x : Note) (l : List Note) → T (not (endsDue x)) → Due l → Due (x ∷ l)
 later x l h q = record { wish = suc (q .wish); made = q .made; since = more }
   where
-    more : (i : ℕ) → i ≤ suc (q .wish) → T (not (endsDue (drop i (x ∷ l))))
+    more : (i : ℕ) → i ≤ suc (q .wish) → T (not (dueEnded (drop i (x ∷ l))))
     more zero z = h
     more (suc i) z = q .since i (le-of-suc-le-suc z)
 
-here : (x : Note) (l : List Note) → T (makesDue (x ∷ l)) → T (not (endsDue (x ∷ l))) → Due (x ∷ l)
+here : (x : Note) (l : List Note) → T (makesDue (lastAsked l) (dueOf l) x) → T (not (endsDue x)) → Due (x ∷ l)
 here x l m h = record { wish = 0; made = m; since = only }
   where
-    only : (i : ℕ) → i ≤ 0 → T (not (endsDue (drop i (x ∷ l))))
+    only : (i : ℕ) → i ≤ 0 → T (not (dueEnded (drop i (x ∷ l))))
     only zero z = h
     only (suc i) z = absurd (not-suc-le-zero z)
 
--- a note that ends nothing: due where it makes it so, or where it was
-goes-on : (a b d : Bool) → T (not a) → T (pick a false (b || d)) → T b ⊎ T d
-goes-on true b d n h = absurd n
-goes-on false b d n h = or-e b d h
-
-not-ended : (a b : Bool) → T (pick a false b) → T (not a)
-not-ended true b h = absurd h
-not-ended false b h = tt
-
-is-due : (a b d : Bool) → T (not a) → T b ⊎ T d → T (pick a false (b || d))
-is-due true b d n h = absurd n
-is-due false b d n (inl h) = or-l b d h
-is-due false b d n (inr h) = or-r b d h
-
 due-at : (l : List Note) → T (dueOf l) → Due l
 due-at [] h = absurd h
-due-at (wasAdded n ∷ l) h = absurd h
-due-at (readdressed ∷ l) h = absurd h
-due-at (wished ∷ l) h = here wished l tt tt
-due-at (wentOffline ∷ l) h = later wentOffline l tt (due-at l h)
-due-at (asked k ∷ l) h = later (asked k) l tt (due-at l h)
-due-at (got t payload e ∷ l) h = go (due-at l) (goes-on (isDiagnosed e) (judged (lastAsked l) (dueOf l) && hasStatus 10 t) (dueOf l) ok h)
+due-at (x ∷ l) h = go (due-at l) (or-e (makesDue (lastAsked l) (dueOf l) x) (dueOf l) (and-r (not (endsDue x)) _ h))
   where
-    ok : T (not (isDiagnosed e))
-    ok = not-ended (isDiagnosed e) _ h
+    ok : T (not (endsDue x))
+    ok = and-l (not (endsDue x)) _ h
 
-    go : (T (dueOf l) → Due l) → T (judged (lastAsked l) (dueOf l) && hasStatus 10 t) ⊎ T (dueOf l) → Due (got t payload e ∷ l)
-    go f (inl a) = here (got t payload e) l a ok
-    go f (inr a) = later (got t payload e) l ok (f a)
+    go : (T (dueOf l) → Due l) → T (makesDue (lastAsked l) (dueOf l) x) ⊎ T (dueOf l) → Due (x ∷ l)
+    go f (inl a) = here x l a ok
+    go f (inr a) = later x l ok (f a)
 
-due-kept : (x : Note) (l : List Note) → T (not (endsDue (x ∷ l))) → T (dueOf l) → T (dueOf (x ∷ l))
-due-kept (wasAdded n) l e h = absurd e
-due-kept readdressed l e h = absurd e
-due-kept wished l e h = tt
-due-kept wentOffline l e h = h
-due-kept (asked k) l e h = h
-due-kept (got t payload x) l e h = is-due (isDiagnosed x) (judged (lastAsked l) (dueOf l) && hasStatus 10 t) (dueOf l) e (inr h)
-
-due-made : (x : Note) (l : List Note) → T (not (endsDue (x ∷ l))) → T (makesDue (x ∷ l)) → T (dueOf (x ∷ l))
-due-made (wasAdded n) l e h = absurd e
-due-made readdressed l e h = absurd e
-due-made wished l e h = tt
-due-made wentOffline l e h = absurd h
-due-made (asked k) l e h = absurd h
-due-made (got t payload x) l e h = is-due (isDiagnosed x) (judged (lastAsked l) (dueOf l) && hasStatus 10 t) (dueOf l) e (inl h)
-
-at-due : (l : List Note) (w : ℕ) → T (makesDue (drop w l)) → ((i : ℕ) → i ≤ w → T (not (endsDue (drop i l)))) → T (dueOf l)
+at-due : (l : List Note) (w : ℕ) → T (dueMade (drop w l)) → ((i : ℕ) → i ≤ w → T (not (dueEnded (drop i l)))) → T (dueOf l)
 at-due [] zero m s = absurd m
 at-due [] (suc w) m s = absurd m
-at-due (x ∷ l) zero m s = due-made x l (s 0 (omega arith)) m
-at-due (x ∷ l) (suc w) m s = due-kept x l (s 0 (omega arith)) (at-due l w m (λ i q. s (suc i) (omega arith)))
+at-due (x ∷ l) zero m s = and-i (not (endsDue x)) _ (s 0 (omega arith)) (or-l (makesDue (lastAsked l) (dueOf l) x) (dueOf l) m)
+at-due (x ∷ l) (suc w) m s =
+    and-i (not (endsDue x)) _ (s 0 (omega arith)) (or-r (makesDue (lastAsked l) (dueOf l) x) (dueOf l) (at-due l w m (λ i q. s (suc i) (omega arith))))
 
 pub due-wording : (l : List Note) → T (dueOf l) ↔ Due l
 due-wording l = (due-at l, λ q. at-due l (q .wish) (q .made) (q .since))

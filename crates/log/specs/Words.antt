@@ -251,19 +251,53 @@ spotless t payload =
     && not (flag 0x0100 (diagnosisOf payload .flags))
     && not (flag 0x0002 (diagnosisOf payload .flags))
 
+-- ---- of a reply; k is the request that was sent last, due: a diagnosis was due on arrival
+
 -- judged as exchange data: a reply to a data request with no diagnosis due on arrival
 abbrev pub judged : Option Request → Bool → Bool
 judged k due = isKind Data k && not due
 
--- diagnosis due: since adding or reset, a caller's wish or a status 10, not followed by a Diagnostics event
+-- status 3 and status 10 count only in replies judged as exchange data
+abbrev pub denies : Option Request → Bool → Telegram → Bool
+denies k due t = judged k due && hasStatus 3 t
+
+abbrev pub warns : Option Request → Bool → Telegram → Bool
+warns k due t = judged k due && hasStatus 10 t
+
+-- a short confirmation answering that request
+abbrev pub confirms : Request → Option Request → Telegram → Bool
+confirms q k t = isKind q k && isShort t
+
+-- a taken diagnosis, answering a diagnosis request, without those four flags
+abbrev pub cleans : Option Request → Telegram → List ℕ → Bool
+cleans k t payload = isKind Diagnosis k && spotless t payload
+
+-- ---- diagnosis due
+
+-- a caller's wish, or a status 10
+abbrev pub makesDue : Option Request → Bool → Note → Bool
+makesDue k due (wasAdded n) = false
+makesDue k due readdressed = false
+makesDue k due wished = true
+makesDue k due wentOffline = false
+makesDue k due (asked q) = false
+makesDue k due (got t payload e) = warns k due t
+
+-- added, address reset, or a Diagnostics event
+abbrev pub endsDue : Note → Bool
+endsDue (wasAdded n) = true
+endsDue readdressed = true
+endsDue wished = false
+endsDue wentOffline = false
+endsDue (asked q) = false
+endsDue (got t payload e) = isDiagnosed e
+
+-- since adding or reset, a caller's wish or a status 10, not followed by a Diagnostics event
 abbrev pub dueOf : List Note → Bool
 dueOf [] = false
-dueOf (wasAdded n ∷ l) = false
-dueOf (readdressed ∷ l) = false
-dueOf (wished ∷ l) = true
-dueOf (wentOffline ∷ l) = dueOf l
-dueOf (asked k ∷ l) = dueOf l
-dueOf (got t payload e ∷ l) = pick (isDiagnosed e) false ((judged (lastAsked l) (dueOf l) && hasStatus 10 t) || dueOf l)
+dueOf (x ∷ l) = not (endsDue x) && (makesDue (lastAsked l) (dueOf l) x || dueOf l)
+
+-- ---- the input image
 
 -- the newest exchanged payload: of the newest reply reported DataExchanged since the slot was added, else zeros of the image's length
 abbrev pub imageOf : List Note → List ℕ
@@ -295,7 +329,7 @@ acknowledged k (readdressed ∷ l) = false
 acknowledged k (wished ∷ l) = false
 acknowledged k (wentOffline ∷ l) = false
 acknowledged k (asked q ∷ l) = false
-acknowledged k (got t payload e ∷ l) = isKind k (lastAsked l) && isShort t
+acknowledged k (got t payload e ∷ l) = confirms k (lastAsked l) t
 
 -- clean: a taken diagnosis, answering a diagnosis request, without those four flags
 abbrev pub clean : List Note → Bool
@@ -305,7 +339,7 @@ clean (readdressed ∷ l) = false
 clean (wished ∷ l) = false
 clean (wentOffline ∷ l) = false
 clean (asked q ∷ l) = false
-clean (got t payload e ∷ l) = isKind Diagnosis (lastAsked l) && spotless t payload
+clean (got t payload e ∷ l) = cleans (lastAsked l) t payload
 
 -- "SAP not enabled": status 3 in a reply judged as exchange data
 abbrev pub notEnabled : List Note → Bool
@@ -315,35 +349,25 @@ notEnabled (readdressed ∷ l) = false
 notEnabled (wished ∷ l) = false
 notEnabled (wentOffline ∷ l) = false
 notEnabled (asked q ∷ l) = false
-notEnabled (got t payload e ∷ l) = judged (lastAsked l) (dueOf l) && hasStatus 3 t
+notEnabled (got t payload e ∷ l) = denies (lastAsked l) (dueOf l) t
 
--- a caller's wish, or status 10 in a reply judged as exchange data
-abbrev pub makesDue : List Note → Bool
-makesDue [] = false
-makesDue (wasAdded n ∷ l) = false
-makesDue (readdressed ∷ l) = false
-makesDue (wished ∷ l) = true
-makesDue (wentOffline ∷ l) = false
-makesDue (asked q ∷ l) = false
-makesDue (got t payload e ∷ l) = judged (lastAsked l) (dueOf l) && hasStatus 10 t
+-- it made a diagnosis due
+abbrev pub dueMade : List Note → Bool
+dueMade [] = false
+dueMade (x ∷ l) = makesDue (lastAsked l) (dueOf l) x
 
--- added, address reset, or a Diagnostics event
-abbrev pub endsDue : List Note → Bool
-endsDue [] = false
-endsDue (wasAdded n ∷ l) = true
-endsDue (readdressed ∷ l) = true
-endsDue (wished ∷ l) = false
-endsDue (wentOffline ∷ l) = false
-endsDue (asked q ∷ l) = false
-endsDue (got t payload e ∷ l) = isDiagnosed e
+-- since then none is due of what came before
+abbrev pub dueEnded : List Note → Bool
+dueEnded [] = false
+dueEnded (x ∷ l) = endsDue x
 
 -- ---- the wording by positions, which count back from the newest note
 
 -- diagnosis due: at a position there is a wish or a status 10, and neither there nor later an adding, a reset or a Diagnostics event
 pub record Due (l : List Note) : Type 0 where
   pub wish : ℕ
-  pub made : T (makesDue (drop wish l))
-  pub since : (i : ℕ) → i ≤ wish → T (not (endsDue (drop i l)))
+  pub made : T (dueMade (drop wish l))
+  pub since : (i : ℕ) → i ≤ wish → T (not (dueEnded (drop i l)))
 
 -- parameters acknowledged at p, configuration later at c, a clean diagnosis later at d;
 -- no fall at p or later, and no "SAP not enabled" after d
