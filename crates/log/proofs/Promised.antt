@@ -5,9 +5,9 @@ use mathlib.Core.Bool.{Bool, true, false, not, _&&_, false≢true}
 use mathlib.Core.Logic.{_↔_}
 use mathlib.Core.List.{List, [], _∷_}
 use Prim.Native.Nat.{ℕ}
-use lib.ListN.{getD, replicate, length-replicate, getD-replicate, List·getD-eq-default}
+use lib.ListN.{length, getD, replicate, length-replicate, getD-replicate, List·getD-eq-default}
 use lib.Dec.{T, eqb, ltb, leb}
-use borrow.Author.Tests.{eqb-true, ltb-true, ltb-false}
+use borrow.Author.Tests.{eqb-true, eq-eqb, ltb-true, ltb-false, lt-ltb}
 use Rattle.parts.specs.Parts.{pick}
 use Rattle.parts.proofs.Laws.{by-test}
 use Rattle.fdl.specs.declared.parameters.Parameters.{Parameters}
@@ -17,14 +17,19 @@ use Rattle.master.specs.Unit.{emptyUnit, createdOf}
 use Rattle.master.specs.Add.{userOf, configOf, lengthsOf}
 use Rattle.master.specs.Turn.{stepAt, sweptBy}
 use Rattle.master.specs.Reply.{replyAt}
-use Rattle.valid.specs.Valid.{Valid, occupied}
+use Rattle.valid.specs.Valid.{Valid, balance, occupied}
+use Rattle.access.specs.Lookup.{foundIn}
+use Rattle.master.specs.declared.unit.DpMaster.{DpMaster}
+use Rattle.valid.proofs.Balances.{marked-below}
+use Rattle.peripheral_set.specs.declared.PeripheralHandle.{PeripheralHandle}
 use Rattle.log.specs.Calls.{Pools, World, lend, Call, add, enter, turn, reply, reset, wish, write, hand, accepted, addStep, turnStep, replyStep, addNumber, turnNumber, replyNumber, turnPayloadAt, step}
 use Rattle.log.specs.Words.{Entry, turnOf, reportedOffline, slotLog, frameOf, occupiedIn, reached, dueOf, asksData}
 use Rattle.log.specs.Run.{run}
-use Rattle.log.specs.Promises.{ImageTold, AskedTold, NeverOverlap}
+use Rattle.log.specs.Promises.{ImageTold, ReadTold, FrameTold, AskedTold, NeverOverlap}
 use Rattle.log.proofs.Wording.{and-l, and-r, ready, wording, due-wording}
 use Rattle.log.proofs.Steps.{turn-accepted, reply-accepted, refused-same, valid-step, always-valid}
 use Rattle.log.proofs.Units.{Inv, InvAt, inv-enter, inv-write, inv-hand, inv-wish, inv-reset}
+use Rattle.log.proofs.Lent.{lent-same}
 use Rattle.log.proofs.Adding.{inv-add}
 use Rattle.log.proofs.Replying.{inv-reply}
 use Rattle.log.proofs.Turning.{inv-turn, asked-step}
@@ -108,6 +113,21 @@ there w l i s h = is-true _ (rw (← i .frame-is) at h)
 
 pub image-told : ImageTold
 image-told u pools cs s h = let i = inv-run u pools cs in i .images s (there (run u pools cs .world) (run u pools cs .log) i s h)
+
+pub frame-told : FrameTold
+frame-told u pools cs = inv-run u pools cs .frame-is
+
+-- the balance of a handle whose slot is occupied
+found-there : (m : DpMaster) → Valid m → (h : PeripheralHandle) → occupied m (h .slot) → foundIn m h ≡ balance m (h .slot)
+unfolding foundIn
+found-there m v h o = let b = lt-ltb (h .slot) slots (marked-below m v (h .slot) o) in rw (b, o) refl
+
+pub read-told : ReadTold
+read-told u pools cs h n r o e q =
+    let w = run u pools cs .world in
+    let i = inv-run u pools cs in
+    let here = there w (run u pools cs .log) i (h .slot) o in
+    q ∙ rw (eq-eqb (length (lend n (w .pools .inputs))) (w .unit .parameters .«input_pool») e, found-there (w .unit) (i .valid) h here, lent-same n (w .unit .parameters .«input_pool») (w .pools .inputs) e) (i .images (h .slot) here)
 
 pub never-overlap : NeverOverlap
 never-overlap u pools cs s t h k d =

@@ -32,9 +32,10 @@ use Rattle.valid.specs.Valid.{Valid, balance, occupied}
 use Rattle.valid.proofs.Balances.{marked-below}
 use Rattle.log.specs.Calls.{World, lend, back, reply, replied, replyStep, replyNumber}
 use Rattle.log.specs.Words.{Entry, Note, got, Place, slotLog, placeNext, imageOf}
+use Rattle.log.specs.Promises.{frameIn}
 use Rattle.log.proofs.Stations.{Told, told-replied}
 use Rattle.log.proofs.Lent.{lent-same, lent-back}
-use Rattle.log.proofs.Units.{unitFrame, Inv, InvAt, at-set}
+use Rattle.log.proofs.Units.{Inv, InvAt, at-set}
 
 two : _≡_ {A = ℕ} 2 0 → ⊥
 two e = omega arith
@@ -121,7 +122,7 @@ module _ (w : World) (l : List Entry) (i : Inv w l) (address : ℕ) (r : Telegra
       let here : x < length ps = omega (arith, below, i .valid .table) in
       record {
         valid = v;
-        frame-is = rw (mode-is next (w .unit .state), k .aimed, ← i .frame-is, en) (ap (λ (q : Place). record { mode = unitFrame (w .unit) .mode; marks = w .unit .occupied; place = q }) (rw en at (place-is next (w .unit .state))));
+        frame-is = rw (mode-is next (w .unit .state), k .aimed, ← i .frame-is, en) (ap (λ (q : Place). record { mode = frameIn (w .unit) .mode; marks = w .unit .occupied; place = q }) (rw en at (place-is next (w .unit .state))));
         told = λ s u.
             rw (k .aimed, ea)
             (at-set (λ (q : Peripheral) (n : List Note). Told (q .station) n) ps notes x _ (got r payload event) here s (λ e. told-replied r p payload pool (lend nd (w .pools .diags)) (slotLog x l) (k .fit) (i .told x there)) (λ d. i .told s u));

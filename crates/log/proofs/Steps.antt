@@ -23,6 +23,7 @@ use Rattle.peripheral_set.specs.Marks.{handleRefusal}
 use Rattle.cycle.specs.State.{closedFor}
 use Rattle.master.specs.Unit.{stateIs, balanceAt}
 use Rattle.master.specs.Add.{userOf, configOf, lengthsOf}
+use Rattle.answers.specs.Turn.{refusedTurn}
 use Rattle.master.specs.Turn.{Swept, stepAt, sweptBy, turnAnswer}
 use Rattle.master.specs.Reply.{replyAt}
 use Rattle.master.specs.Handle.{resetRefusal, balanceIs, doneBy, resetDone, wishDone}
@@ -32,9 +33,9 @@ use Rattle.valid.proofs.Calls.{created-valid, enter-valid, wish-valid, reset-va
 use Rattle.valid.proofs.Turning.{turn-valid}
 use Rattle.valid.proofs.Replying.{reply-valid}
 use Rattle.valid.proofs.Adding.{add-valid}
-use Rattle.log.specs.Calls.{Pools, World, lend, back, Call, add, enter, turn, reply, reset, wish, write, hand, accepted, Outcome, addStep, turnStep, replyStep, doneStep, writeStep, addNumber, turnNumber, replyNumber, writeNumber, handNumber, turnPayloadAt, step}
+use Rattle.log.specs.Calls.{Pools, World, lend, back, Call, add, enter, turn, reply, reset, wish, write, hand, turned, refusal, accepted, Outcome, addStep, turnStep, replyStep, doneStep, writeStep, addNumber, turnNumber, replyNumber, writeNumber, handNumber, turnPayloadAt, step}
 use Rattle.log.specs.Run.{Run, after, run, acceptedOf}
-use Rattle.log.specs.Promises.{RefusedSame, NoTrace, AlwaysValid}
+use Rattle.log.specs.Promises.{RefusedSame, BufferSame, NoTrace, AlwaysValid}
 
 -- ---- refused calls
 
@@ -104,6 +105,17 @@ refused-same w (reset h address) e = reset-same w h address e
 refused-same w (wish h) e = wish-same w h e
 refused-same w (write h bytes nq) e = write-same (eqb (writeNumber h bytes nq w) 0) (writeNumber h bytes nq w) (foundIn (w .unit) h) bytes nq w e
 refused-same w (hand h bytes nq) e = write-same (eqb (handNumber h nq w) 0) (handNumber h nq w) (foundIn (w .unit) h) bytes nq w e
+
+pub buffer-same : BufferSame
+unfolding step
+buffer-same w time high ns nq buf e =
+    by-buffer (eqb (turnNumber time ns nq buf w) 0) (turnNumber time ns nq buf w) (stepAt time high (w .unit)) (sweptBy (stepAt time high (w .unit)) (w .unit))
+    (turnPayloadAt time high ns nq w) refl e
+  where
+    by-buffer : (ok : Bool) (n : ℕ) (step : Step) (s : Swept) (payload : List ℕ) → eqb n 0 ≡ ok → accepted (turnStep ok n step s payload time buf w .answer) ≡ false
+        → turnStep ok n step s payload time buf w .answer ≡ turned (refusedTurn (refusal (turnStep ok n step s payload time buf w .answer))) buf
+    by-buffer true n step s payload o e = absurd (false≢true (sym (e) ∙ turn-accepted true n step s payload time buf w o))
+    by-buffer false n step s payload o e = refl
 
 -- a run goes on as if a refused call had not come
 left-out : (b : Bool) (c : Call) (o : Outcome) (r : Run) → accepted (o .answer) ≡ b → b ≡ false → o .world ≡ r .world → after c o (r .log) ≡ r

@@ -31,17 +31,8 @@ use Rattle.valid.proofs.Balances.{marked-below}
 use Rattle.valid.proofs.Calls.{handle-below}
 use Rattle.log.specs.Calls.{World, lend, Call, enter, reset, wish, write, hand, Answer, unitIs, doneStep}
 use Rattle.log.specs.Words.{Entry, Note, readdressed, wished, Frame, target, noteIf, slotLog, frameAfter, frameOf, imageOf}
-use Rattle.log.specs.Promises.{imageIn}
+use Rattle.log.specs.Promises.{imageIn, frameIn}
 use Rattle.log.proofs.Stations.{Told, Fits, told-reset, told-wished, fits-wished}
-
--- what the log says of the unit's own state
-abbrev pub unitFrame : DpMaster → Frame
-unitFrame m =
-    record {
-      mode = operatingOf (m .state .operating);
-      marks = m .occupied;
-      place = record { slot = m .state .slot; past = m .state .completed };
-    }
 
 -- the open request: it is that of the newest turn, and fits the state of its balance
 pub record Link (m : DpMaster) (l : List Entry) : Type 0 where
@@ -50,7 +41,7 @@ pub record Link (m : DpMaster) (l : List Entry) : Type 0 where
 
 pub record Inv (w : World) (l : List Entry) : Type 0 where
   pub valid : Valid (w .unit)
-  pub frame-is : unitFrame (w .unit) ≡ frameOf l
+  pub frame-is : frameIn (w .unit) ≡ frameOf l
   pub told : (s : ℕ) → occupied (w .unit) s → Told (balance (w .unit) s .station) (slotLog s l)
   pub link : eqb (w .unit .state .«open_kind») 0 ≡ false → Link (w .unit) l
   pub images : (s : ℕ) → occupied (w .unit) s → imageIn w s ≡ imageOf (slotLog s l)

@@ -9,7 +9,6 @@ use mathlib.Core.List.{List, [], _∷_}
 use lib.Dec.{T}
 use lib.ListN.{drop}
 use mathlib.Core.Option.{Option, none, some}
-use Rattle.parts.specs.Parts.{pick}
 use Rattle.telegrams.specs.declared.request.Request.{Request}
 use Rattle.telegrams.specs.declared.request.Request.the-variants.{Diagnosis, Parameters, Configuration, Data}
 use Rattle.fdl.specs.declared.telegram.Telegram.{Telegram}

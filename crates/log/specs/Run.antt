@@ -15,10 +15,14 @@ pub record Run : Type 0 where
 abbrev pub after : Call → Outcome → List Entry → Run
 after c o l = record { world = o .world; log = pick (accepted (o .answer)) (record { call = c; answer = o .answer } ∷ l) l }
 
--- from creation with these parameters, refused or not, and these pools
+-- from creation with these parameters, refused or not, and these pools; f is what a call does
+abbrev pub runBy : (World → Call → Outcome) → Parameters → Pools → List Call → Run
+runBy f u pools [] = record { world = record { unit = createdOf u .master; pools = pools }; log = [] }
+runBy f u pools (c ∷ cs) = after c (f (runBy f u pools cs .world) c) (runBy f u pools cs .log)
+
+-- by the definitions that the contracts cite
 abbrev pub run : Parameters → Pools → List Call → Run
-run u pools [] = record { world = record { unit = createdOf u .master; pools = pools }; log = [] }
-run u pools (c ∷ cs) = after c (step (run u pools cs .world) c) (run u pools cs .log)
+run u pools cs = runBy step u pools cs
 
 -- the calls without those that were refused
 abbrev pub acceptedOf : Parameters → Pools → List Call → List Call
