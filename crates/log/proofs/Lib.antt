@@ -9,3 +9,4 @@ pub mod Adding
 pub mod Replying
 pub mod Turning
 pub mod Promised
+pub mod Wrong

@@ -2,3 +2,4 @@ pub mod Calls
 pub mod Words
 pub mod Run
 pub mod Promises
+pub mod Wrong
