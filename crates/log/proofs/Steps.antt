@@ -120,7 +120,9 @@ buffer-same w time high ns nq buf e =
 -- a run goes on as if a refused call had not come
 left-out : (b : Bool) (c : Call) (o : Outcome) (r : Run) → accepted (o .answer) ≡ b → b ≡ false → o .world ≡ r .world → after c o (r .log) ≡ r
 left-out true c o r e f q = absurd (false≢true (sym f))
-left-out false c o r e f q = rw (e, q) refl
+left-out false c o r e f q =
+    ap (λ (b : Bool). record { world = o .world; log = pick b (record { call = c; answer = o .answer } ∷ r .log) (r .log) }) e
+    ∙ ap (λ (w : World). record { world = w; log = r .log }) q
 
 one-more : (u : Parameters) (pools : Pools) (c : Call) (cs ds : List Call) (b : Bool) → accepted (step (run u pools cs .world) c .answer) ≡ b → run u pools ds ≡ run u pools cs
     → run u pools (pick b (c ∷ ds) ds) ≡ run u pools (c ∷ cs)
