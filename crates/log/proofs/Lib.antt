@@ -9,4 +9,5 @@ pub mod Adding
 pub mod Replying
 pub mod Turning
 pub mod Promised
+pub mod Life
 pub mod Wrong

@@ -2,8 +2,6 @@
 -- The idea: read one number off both outcomes; where the numbers differ the outcomes do.
 use mathlib.Core.Path.{_≡_, refl, sym, ap, _∙_}
 use mathlib.Core.Bool.{false}
-use mathlib.Core.List.{[], _∷_}
-use lib.Dec.{T}
 use Prim.Native.Nat.{ℕ}
 use native.Mathlib.Omega.{arith}
 use Rattle.parts.specs.Parts.{zeros, inside, part, splice, roomFor, putIn}
@@ -24,10 +22,11 @@ use Rattle.master.specs.Unit.{emptyUnit, createdOf, balanceAt}
 use Rattle.master.specs.Turn.{sweepFrom, sweptBy, turnPayload, turnAnswer}
 use Rattle.master.specs.Reply.{replyAt}
 use Rattle.log.specs.Calls.{Outcome, refusal, step}
-use Rattle.log.specs.Words.{turnOf, slotLog, reached, asksData}
-use Rattle.log.specs.Run.{runBy, run}
-use Rattle.log.specs.Promises.{AskedBy, imageIn}
-use Rattle.log.specs.Wrong.{refusesAll, sameAnswer, doesNothing, runsAll, inventsMask, bench, benchPools, turnAt, diagnosisReply, diagnosisAnswered, configured, exchanged, startedBench, askedBench}
+use Rattle.log.specs.Words.{turnOf, slotLog}
+use Rattle.log.specs.Run.{runBy}
+use Rattle.log.specs.Promises.{AskedBy}
+use Rattle.log.specs.Life.{bench, benchPools, turnAt, diagnosisReply, diagnosisAnswered, startedBench, askedBench}
+use Rattle.log.specs.Wrong.{refusesAll, sameAnswer, doesNothing, runsAll, inventsMask}
 use Rattle.log.proofs.Wording.{wording}
 
 -- what a turn sends: 0 nothing, 1 the global control, 2 a request
@@ -71,13 +70,3 @@ unfolding step inRange held createdOf emptyUnit addRefusal addressRefusal length
 runs-all-breaks told =
     let both = told bench benchPools diagnosisAnswered 3 false 4 2 (zeros 244) 0 tt tt .0 tt in
     wording (slotLog 0 (runBy runsAll bench benchPools diagnosisAnswered .log)) .1 (both .1)
-
--- ---- and what is promised happens: a balance is asked for data, and its image is what it sent
-
-pub life-asked : let a = turnOf (step (run bench benchPools configured .world) (turnAt 9) .answer) in T (reached (run bench benchPools configured .log) a 0) × T (asksData 0 (a .transmission))
-unfolding step inRange held createdOf emptyUnit addRefusal addressRefusal lengthRefusal roomRefusal searchFrom turnRefusal dueOf wishOf sweptBy sweepFrom turnPayload turnAnswer controlPayload payloadOf paramHead inside part splice roomFor putIn replyRefusal replyAt hearsOf heardOf stationTook storedLength diagsTaken diagnosisOf tookOf isImage byFlags
-life-asked = (tt, tt)
-
-pub life-exchanged : imageIn (run bench benchPools exchanged .world) 0 ≡ 11 ∷ 22 ∷ []
-unfolding step inRange held createdOf emptyUnit addRefusal addressRefusal lengthRefusal roomRefusal searchFrom turnRefusal dueOf wishOf sweptBy sweepFrom turnPayload turnAnswer controlPayload payloadOf paramHead inside part splice roomFor putIn replyRefusal replyAt hearsOf heardOf stationTook storedLength diagsTaken diagnosisOf tookOf isImage byFlags
-life-exchanged = refl

@@ -1,27 +1,16 @@
--- The life of one balance as a list of calls. Five units that could pass for one, each wrong in a turn, a reply or everything; and the inputs at which each is told from the promised one.
+-- Five units that could pass for one, each wrong in a turn, a reply or everything. The inputs at which each is told from the promised one stand in Life.antt.
 -- From 01, "What the contracts have to say".
-use Prim.Native.Nat.{ℕ}
-use mathlib.Core.Bool.{Bool, true, false}
-use mathlib.Core.List.{List, [], _∷_}
 use lib.ListN.{set}
-use Rattle.parts.specs.Parts.{zeros}
-use Rattle.fdl.specs.declared.consts.Sap.the-variants.{Absent, At}
-use Rattle.fdl.specs.declared.parameters.Parameters.{Parameters}
-use Rattle.fdl.specs.declared.telegram.Telegram.the-variants.{ShortConfirmation, Data}
 use Rattle.station.specs.declared.state.PeripheralState.the-variants.{DataExchange}
 use Rattle.station.specs.Record.{at}
 use Rattle.peripheral.specs.declared.record.Peripheral.{Peripheral}
 use Rattle.peripheral.specs.Record.{stationIs}
-use Rattle.cycle.specs.declared.state.OperatingState.the-variants.{Operate}
 use Rattle.cycle.specs.Seen.{indexOf}
 use Rattle.answers.specs.declared.turn.TurnAnswer.{TurnAnswer}
 use Rattle.answers.specs.Turn.{refusedTurn}
 use Rattle.answers.specs.Reply.{refusedReply}
-use Rattle.master.specs.declared.unit.DpMaster.{DpMaster}
-use Rattle.master.specs.declared.add.Addition.{Addition}
 use Rattle.master.specs.Unit.{balancesAre, balanceAt}
-use Rattle.log.specs.Calls.{Pools, World, Call, add, enter, turn, reply, reset, wish, write, hand, Answer, number, added, turned, replied, Outcome, unitIs, step}
-use Rattle.log.specs.Run.{run}
+use Rattle.log.specs.Calls.{World, Call, add, enter, turn, reply, reset, wish, write, hand, Answer, number, added, turned, replied, Outcome, unitIs, step}
 
 -- ---- the wrong units
 
@@ -102,89 +91,3 @@ maskInvented a =
 
 abbrev pub inventsMask : World → Call → Outcome
 inventsMask = withTurn (λ w o. record { world = o .world; answer = answering maskInvented (o .answer) })
-
--- ---- the inputs
-
--- slot time 200, limit 1, address 2; pools of 4, 2, 2 and 8 bytes
-abbrev pub bench : Parameters
-bench =
-    record {
-      «slot_time» = 200;
-      «setup_pool» = 4;
-      «input_pool» = 2;
-      «output_pool» = 2;
-      «diag_pool» = 8;
-      address = 2;
-      «max_retry_limit» = 1;
-      watchdog = false;
-      «watchdog_first» = 0;
-      «watchdog_second» = 0;
-      «min_tsdr_bits» = 11;
-    }
-
-abbrev pub benchPools : Pools
-benchPools = record { setup = zeros 4; inputs = zeros 2; outputs = zeros 2; diags = zeros 8 }
-
--- a balance at address 7 with three bytes of user parameters, one of configuration, images of 2 bytes
-abbrev pub addBalance : Call
-addBalance =
-    add
-    (record {
-      address = 7;
-      options =
-          record {
-            «ident_number» = 0x1234;
-            «max_tsdr» = 0;
-            groups = 0;
-            «sync_mode» = false;
-            «freeze_mode» = false;
-            «fail_safe» = false;
-            «has_user_parameters» = true;
-            «user_parameters» = 0;
-            «has_config» = true;
-            config = 0;
-          };
-      «input_len» = 2;
-      «output_len» = 2;
-      room = 8;
-    })
-    (0 ∷ 1 ∷ 2 ∷ []) (0x31 ∷ []) (record { setup = 4; inputs = 2; outputs = 2; diags = 8 })
-
--- a turn at that time
-abbrev pub turnAt : ℕ → Call
-turnAt time = turn time false 4 2 (zeros 244)
-
--- its reply to a diagnosis request: 00 0C 00 02 12 34
-abbrev pub diagnosisReply : Call
-diagnosisReply = reply 7 (Data (At 62) (At 60) 0) (0 ∷ 0x0C ∷ 0 ∷ 2 ∷ 0x12 ∷ 0x34 ∷ []) 2 8
-
--- one balance, in Operate; newest first
-abbrev pub started : List Call
-started = enter Operate ∷ addBalance ∷ []
-
--- then the global control, and a diagnosis request
-abbrev pub diagnosisAsked : List Call
-diagnosisAsked = turnAt 1 ∷ turnAt 0 ∷ started
-
--- then its reply, and the turn that takes the place back
-abbrev pub diagnosisAnswered : List Call
-diagnosisAnswered = turnAt 2 ∷ diagnosisReply ∷ diagnosisAsked
-
--- a whole life: diagnosis, parameters, configuration, a clean diagnosis; each answered, and the place taken back
-abbrev pub acknowledgement : Call
-acknowledgement = reply 7 ShortConfirmation [] 2 8
-
-abbrev pub configured : List Call
-configured =
-    turnAt 8 ∷ diagnosisReply ∷ turnAt 7 ∷ turnAt 6 ∷ acknowledgement ∷ turnAt 5 ∷ turnAt 4 ∷ acknowledgement ∷ turnAt 3 ∷ diagnosisAnswered
-
--- then data is asked for, and 11 22 comes
-abbrev pub exchanged : List Call
-exchanged = reply 7 (Data Absent Absent 8) (11 ∷ 22 ∷ []) 2 8 ∷ turnAt 9 ∷ configured
-
--- the unit and the pools then
-abbrev pub startedBench : World
-startedBench = run bench benchPools started .world
-
-abbrev pub askedBench : World
-askedBench = run bench benchPools diagnosisAsked .world
