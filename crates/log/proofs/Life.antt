@@ -1,6 +1,7 @@
 -- The life of one balance, computed: its answers are those of the table, and at its end the pools hold what was sent.
 -- The idea: every definition computes, so each table is equal to what the definitions say by computation alone.
 use mathlib.Core.Path.{_≡_, refl}
+use Prim.Native.Nat.{ℕ}
 use mathlib.Core.List.{[], _∷_}
 use lib.Dec.{T}
 use Rattle.parts.specs.Parts.{inside, part, splice, roomFor, putIn}
@@ -12,7 +13,7 @@ use Rattle.station.specs.Visit.{wishOf}
 use Rattle.station.specs.Reply.{byFlags, heardOf}
 use Rattle.peripheral.specs.Visit.{payloadOf}
 use Rattle.peripheral.specs.Reply.{storedLength, diagsTaken, stationTook, isImage, hearsOf}
-use Rattle.peripheral_set.specs.Marks.{searchFrom}
+use Rattle.peripheral_set.specs.Marks.{slots, searchFrom}
 use Rattle.cycle.specs.State.{dueOf}
 use Rattle.cycle.specs.Refusal.{turnRefusal, replyRefusal, addressRefusal, lengthRefusal, roomRefusal, addRefusal}
 use Rattle.master.specs.Turn.{sweepFrom, sweptBy, turnPayload, turnAnswer}
@@ -33,6 +34,10 @@ first-half = refl
 pub second-half : answersTo (afterAll (run bench benchPools [] .world) firstHalf) secondHalf ≡ secondAnswers
 unfolding step inRange held createdOf emptyUnit addRefusal addressRefusal lengthRefusal roomRefusal searchFrom turnRefusal dueOf wishOf sweptBy sweepFrom turnPayload turnAnswer controlPayload payloadOf paramHead inside part splice roomFor putIn replyRefusal replyAt hearsOf heardOf stationTook storedLength diagsTaken diagnosisOf tookOf isImage byFlags resetDone wishDone foundIn writeRefusal
 second-half = refl
+
+-- there are 32 slots
+pub thirty-two : _≡_ {A = ℕ} slots 32
+thirty-two = refl
 
 -- what stands in the pools at the end
 pub pools-then : _≡_ {A = Pools} (afterAll (afterAll (run bench benchPools [] .world) firstHalf) secondHalf .pools)

@@ -150,6 +150,10 @@ replyOf t payload = reply 7 t payload 2 8
 abbrev pub extendedReply : Call
 extendedReply = replyOf (Data (At 62) (At 60) 0) (0x08 ∷ 0x0C ∷ 0 ∷ 2 ∷ 0x12 ∷ 0x34 ∷ 0xAA ∷ 0xBB ∷ [])
 
+-- one that comes where parameters are to be acknowledged: it changes nothing
+abbrev pub lateReply : Call
+lateReply = replyOf (Data (At 62) (At 60) 0) (0x08 ∷ 0x0C ∷ 0 ∷ 2 ∷ 0x12 ∷ 0x34 ∷ 0xCC ∷ [])
+
 abbrev pub firstHalf : List Call
 firstHalf =
     enter Operate
@@ -160,6 +164,7 @@ firstHalf =
     ∷ write (handleTo 0) (5 ∷ []) 2
     ∷ hand (handleTo 0) (9 ∷ []) 2
     ∷ hand (handleTo 1) (9 ∷ []) 2
+    ∷ hand (handleTo 0) (9 ∷ []) 1
     ∷ turnAt 0
     ∷ turnAt 1
     ∷ reply 8 ShortConfirmation [] 2 8
@@ -167,6 +172,9 @@ firstHalf =
     ∷ extendedReply
     ∷ turnAt 2
     ∷ turnAt 1
+    ∷ turnAt 3
+    ∷ lateReply
+    ∷ turnAt 3
     ∷ turnAt 3
     ∷ acknowledgement
     ∷ turnAt 4
@@ -213,6 +221,7 @@ firstAnswers =
     ∷ (11 ∷ [])
     ∷ (0 ∷ [])
     ∷ (4 ∷ [])
+    ∷ (2 ∷ [])
     ∷ (0 ∷ 0 ∷ 0 ∷ 0 ∷ 255 ∷ 127 ∷ 2 ∷ 58 ∷ 62 ∷ 0 ∷ 4 ∷ 0 ∷ 0 ∷ [])
     ∷ (0 ∷ 0 ∷ 0 ∷ 0 ∷ 255 ∷ 0 ∷ 1 ∷ 7 ∷ 2 ∷ 60 ∷ 62 ∷ 1 ∷ 12 ∷ [])
     ∷ (9 ∷ 0 ∷ 0 ∷ 255 ∷ [])
@@ -220,6 +229,9 @@ firstAnswers =
     ∷ (0 ∷ 1 ∷ 1 ∷ 0 ∷ [])
     ∷ (0 ∷ 0 ∷ 0 ∷ 0 ∷ 255 ∷ [])
     ∷ (3 ∷ 0 ∷ 0 ∷ 0 ∷ 255 ∷ [])
+    ∷ (0 ∷ 0 ∷ 0 ∷ 0 ∷ 255 ∷ 0 ∷ 2 ∷ 7 ∷ 2 ∷ 61 ∷ 62 ∷ 2 ∷ 12 ∷ 0x80 ∷ 0 ∷ 0 ∷ 11 ∷ 0x12 ∷ 0x34 ∷ 0 ∷ 0 ∷ 1 ∷ 2 ∷ [])
+    ∷ (0 ∷ 1 ∷ 0 ∷ 255 ∷ [])
+    ∷ (0 ∷ 0 ∷ 0 ∷ 0 ∷ 255 ∷ [])
     ∷ (0 ∷ 0 ∷ 0 ∷ 0 ∷ 255 ∷ 0 ∷ 2 ∷ 7 ∷ 2 ∷ 61 ∷ 62 ∷ 2 ∷ 12 ∷ 0x80 ∷ 0 ∷ 0 ∷ 11 ∷ 0x12 ∷ 0x34 ∷ 0 ∷ 0 ∷ 1 ∷ 2 ∷ [])
     ∷ (0 ∷ 1 ∷ 0 ∷ 255 ∷ [])
     ∷ (0 ∷ 0 ∷ 0 ∷ 0 ∷ 255 ∷ [])
