@@ -25,7 +25,7 @@ use Rattle.log.specs.Calls.{Pools, step}
 use Rattle.log.specs.Words.{turnOf, reached, asksData}
 use Rattle.log.specs.Run.{run}
 use Rattle.log.specs.Promises.{imageIn}
-use Rattle.log.specs.Life.{bench, benchPools, turnAt, configured, exchanged, answersTo, afterAll, firstHalf, secondHalf, firstAnswers, secondAnswers}
+use Rattle.log.specs.Life.{bench, benchPools, turnAt, configured, exchanged, answersTo, afterAll, firstHalf, secondHalf, firstAnswers, secondAnswers, smallBench, noPools, twoBalances, twoAnswers}
 
 pub first-half : answersTo (run bench benchPools [] .world) firstHalf ≡ firstAnswers
 unfolding step inRange held createdOf emptyUnit addRefusal addressRefusal lengthRefusal roomRefusal searchFrom turnRefusal dueOf wishOf sweptBy sweepFrom turnPayload turnAnswer controlPayload payloadOf paramHead inside part splice roomFor putIn replyRefusal replyAt hearsOf heardOf stationTook storedLength diagsTaken diagnosisOf tookOf isImage byFlags resetDone wishDone foundIn writeRefusal
@@ -34,6 +34,10 @@ first-half = refl
 pub second-half : answersTo (afterAll (run bench benchPools [] .world) firstHalf) secondHalf ≡ secondAnswers
 unfolding step inRange held createdOf emptyUnit addRefusal addressRefusal lengthRefusal roomRefusal searchFrom turnRefusal dueOf wishOf sweptBy sweepFrom turnPayload turnAnswer controlPayload payloadOf paramHead inside part splice roomFor putIn replyRefusal replyAt hearsOf heardOf stationTook storedLength diagsTaken diagnosisOf tookOf isImage byFlags resetDone wishDone foundIn writeRefusal
 second-half = refl
+
+pub two-lives : answersTo (run smallBench noPools [] .world) twoBalances ≡ twoAnswers
+unfolding step inRange held createdOf emptyUnit addRefusal addressRefusal lengthRefusal roomRefusal searchFrom turnRefusal dueOf wishOf sweptBy sweepFrom turnPayload turnAnswer controlPayload payloadOf paramHead inside part splice roomFor putIn replyRefusal replyAt hearsOf heardOf stationTook storedLength diagsTaken diagnosisOf tookOf isImage byFlags resetDone wishDone foundIn writeRefusal
+two-lives = refl
 
 -- there are 32 slots
 pub thirty-two : _≡_ {A = ℕ} slots 32

@@ -265,3 +265,101 @@ secondAnswers =
     ∷ (0 ∷ [])
     ∷ (0 ∷ 0 ∷ 0 ∷ 0 ∷ 255 ∷ [])
     ∷ []
+
+-- ---- two balances with no set-up data and no images, over empty pools; oldest first
+
+abbrev pub smallBench : Parameters
+smallBench =
+    record {
+      «slot_time» = 200;
+      «setup_pool» = 0;
+      «input_pool» = 0;
+      «output_pool» = 0;
+      «diag_pool» = 0;
+      address = 2;
+      «max_retry_limit» = 1;
+      watchdog = false;
+      «watchdog_first» = 0;
+      «watchdog_second» = 0;
+      «min_tsdr_bits» = 11;
+    }
+
+abbrev pub noPools : Pools
+noPools = record { setup = []; inputs = []; outputs = []; diags = [] }
+
+abbrev pub addAt : ℕ → Call
+addAt address =
+    add
+    (record {
+      address = address;
+      options =
+          record {
+            «ident_number» = 0;
+            «max_tsdr» = 0;
+            groups = 0;
+            «sync_mode» = false;
+            «freeze_mode» = false;
+            «fail_safe» = false;
+            «has_user_parameters» = false;
+            «user_parameters» = 0;
+            «has_config» = false;
+            config = 0;
+          };
+      «input_len» = 0;
+      «output_len» = 0;
+      room = 0;
+    })
+    [] [] (record { setup = 0; inputs = 0; outputs = 0; diags = 0 })
+
+abbrev pub smallTurn : ℕ → Call
+smallTurn time = turn time false 0 0 (zeros 244)
+
+abbrev pub smallReply : ℕ → Call
+smallReply address = reply address (Data (At 62) (At 60) 0) (0 ∷ 0x0C ∷ 0 ∷ 2 ∷ 0x12 ∷ 0x34 ∷ []) 0 0
+
+abbrev pub twoBalances : List Call
+twoBalances =
+    addAt 7
+    ∷ addAt 8
+    ∷ addAt 2
+    ∷ enter Operate
+    ∷ smallTurn 0
+    ∷ smallTurn 1
+    ∷ smallReply 8
+    ∷ smallReply 7
+    ∷ smallTurn 2
+    ∷ smallReply 8
+    ∷ smallTurn 3
+    ∷ smallTurn 4
+    ∷ reset (handleTo 0) 7
+    ∷ reset (handleTo 1) 8
+    ∷ smallTurn 5
+    ∷ smallTurn 6
+    ∷ smallTurn 7
+    ∷ smallTurn 8
+    ∷ smallTurn 9
+    ∷ []
+
+-- the second is asked after the first has answered, and where the first, Offline and silent, is passed
+abbrev pub twoAnswers : List (List ℕ)
+twoAnswers =
+    (0 ∷ 0 ∷ 7 ∷ [])
+    ∷ (0 ∷ 1 ∷ 8 ∷ [])
+    ∷ (6 ∷ 255 ∷ 255 ∷ [])
+    ∷ (0 ∷ [])
+    ∷ (0 ∷ 0 ∷ 0 ∷ 0 ∷ 255 ∷ 127 ∷ 2 ∷ 58 ∷ 62 ∷ 0 ∷ 4 ∷ 0 ∷ 0 ∷ [])
+    ∷ (0 ∷ 0 ∷ 0 ∷ 0 ∷ 255 ∷ 0 ∷ 1 ∷ 7 ∷ 2 ∷ 60 ∷ 62 ∷ 1 ∷ 12 ∷ [])
+    ∷ (9 ∷ 0 ∷ 0 ∷ 255 ∷ [])
+    ∷ (0 ∷ 0 ∷ 1 ∷ 0 ∷ [])
+    ∷ (0 ∷ 0 ∷ 0 ∷ 0 ∷ 255 ∷ 1 ∷ 1 ∷ 8 ∷ 2 ∷ 60 ∷ 62 ∷ 1 ∷ 12 ∷ [])
+    ∷ (0 ∷ 1 ∷ 1 ∷ 1 ∷ [])
+    ∷ (0 ∷ 0 ∷ 0 ∷ 0 ∷ 255 ∷ [])
+    ∷ (0 ∷ 1 ∷ 0 ∷ 0 ∷ 255 ∷ [])
+    ∷ (0 ∷ [])
+    ∷ (0 ∷ [])
+    ∷ (0 ∷ 0 ∷ 0 ∷ 0 ∷ 255 ∷ 0 ∷ 1 ∷ 7 ∷ 2 ∷ 60 ∷ 62 ∷ 1 ∷ 12 ∷ [])
+    ∷ (0 ∷ 0 ∷ 0 ∷ 0 ∷ 255 ∷ 1 ∷ 1 ∷ 8 ∷ 2 ∷ 60 ∷ 62 ∷ 1 ∷ 12 ∷ [])
+    ∷ (0 ∷ 1 ∷ 0 ∷ 0 ∷ 255 ∷ [])
+    ∷ (0 ∷ 0 ∷ 0 ∷ 0 ∷ 255 ∷ 0 ∷ 1 ∷ 7 ∷ 2 ∷ 60 ∷ 62 ∷ 1 ∷ 12 ∷ [])
+    ∷ (0 ∷ 0 ∷ 0 ∷ 0 ∷ 255 ∷ 1 ∷ 1 ∷ 8 ∷ 2 ∷ 60 ∷ 62 ∷ 1 ∷ 12 ∷ [])
+    ∷ []
