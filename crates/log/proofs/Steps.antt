@@ -67,7 +67,8 @@ reply-same false n is t payload ni nd w o e = rw (back-same ni (w .pools .inputs
 
 write-same : (ok : Bool) (n : ℕ) (p : Peripheral) (bytes : List ℕ) (nq : ℕ) (w : World) → ok ≡ false → writeStep ok n p bytes nq w .world ≡ w
 write-same true n p bytes nq w e = absurd (false≢true (sym e))
-write-same false n p bytes nq w e = rw (back-same nq (w .pools .outputs)) refl
+write-same false n p bytes nq w e =
+    ap (λ (q : List ℕ). record { unit = w .unit; pools = record { setup = w .pools .setup; inputs = w .pools .inputs; outputs = q; diags = w .pools .diags } }) (back-same nq (w .pools .outputs))
 
 turn-same : (ok : Bool) (n : ℕ) (step : Step) (s : Swept) (payload : List ℕ) (time : ℕ) (buf : List ℕ) (w : World) → eqb n 0 ≡ ok
     → accepted (turnStep ok n step s payload time buf w .answer) ≡ false → turnStep ok n step s payload time buf w .world ≡ w
