@@ -1,4 +1,5 @@
 pub mod Ties
+pub mod Functions
 pub mod Steps
 pub mod Wording
 pub mod Stations
