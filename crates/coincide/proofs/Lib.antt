@@ -1,0 +1,11 @@
+pub mod Law
+pub mod Parts
+pub mod Fdl
+pub mod Telegrams
+pub mod Station
+pub mod Peripheral
+pub mod PeripheralSet
+pub mod Cycle
+pub mod Answers
+pub mod Master
+pub mod Access

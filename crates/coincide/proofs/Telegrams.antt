@@ -1,0 +1,61 @@
+-- Any two results that a contract of `telegrams` allows coincide: a statement for each public function.
+-- The idea: a contract is an equation for the answer and for each lent buffer, so two of them have the same right-hand side.
+use mathlib.Core.Path.{_≡_}
+use denote.Ref.{now}
+use Rattle.coincide.specs.Coincide.{Coincide}
+use Rattle.coincide.proofs.Law.{same}
+use Rattle.telegrams.proofs.diagnosis.DiagnosticsInfo.none.Kinds as K·diagnosis-DiagnosticsInfo-none
+use Rattle.telegrams.proofs.diagnosis.DiagnosticsInfo.none.Reads as R·diagnosis-DiagnosticsInfo-none
+use Rattle.telegrams.proofs.diagnosis.is_taken.Kinds as K·diagnosis-is-taken
+use Rattle.telegrams.proofs.diagnosis.is_taken.Reads as R·diagnosis-is-taken
+use Rattle.telegrams.proofs.diagnosis.read_diagnosis.Kinds as K·diagnosis-read-diagnosis
+use Rattle.telegrams.proofs.diagnosis.read_diagnosis.Reads as R·diagnosis-read-diagnosis
+use Rattle.telegrams.proofs.diagnosis.store_extended.Kinds as K·diagnosis-store-extended
+use Rattle.telegrams.proofs.diagnosis.store_extended.Reads as R·diagnosis-store-extended
+use Rattle.telegrams.proofs.request.control_header.Kinds as K·request-control-header
+use Rattle.telegrams.proofs.request.control_header.Reads as R·request-control-header
+use Rattle.telegrams.proofs.request.Request.number.Kinds as K·request-Request-number
+use Rattle.telegrams.proofs.request.Request.number.Reads as R·request-Request-number
+use Rattle.telegrams.proofs.request.Request.header.Kinds as K·request-Request-header
+use Rattle.telegrams.proofs.request.Request.header.Reads as R·request-Request-header
+use Rattle.telegrams.proofs.write.write_parameters.Kinds as K·write-write-parameters
+use Rattle.telegrams.proofs.write.write_parameters.Reads as R·write-write-parameters
+use Rattle.telegrams.proofs.write.write_bytes.Kinds as K·write-write-bytes
+use Rattle.telegrams.proofs.write.write_bytes.Reads as R·write-write-bytes
+use Rattle.telegrams.proofs.write.write_zeros.Kinds as K·write-write-zeros
+use Rattle.telegrams.proofs.write.write_zeros.Reads as R·write-write-zeros
+use Rattle.telegrams.proofs.write.write_control.Kinds as K·write-write-control
+use Rattle.telegrams.proofs.write.write_control.Reads as R·write-write-control
+
+pub diagnosis-DiagnosticsInfo-none : Coincide 0 K·diagnosis-DiagnosticsInfo-none.ps K·diagnosis-DiagnosticsInfo-none.r R·diagnosis-DiagnosticsInfo-none.Learnt (λ κs z y e f. z ≡ y)
+diagnosis-DiagnosticsInfo-none κs a z y e f p q = same p q
+
+pub diagnosis-is-taken : Coincide 0 K·diagnosis-is-taken.ps K·diagnosis-is-taken.r R·diagnosis-is-taken.Learnt (λ κs z y e f. z ≡ y)
+diagnosis-is-taken κs a z y e f p q = same p q
+
+pub diagnosis-read-diagnosis : Coincide 1 K·diagnosis-read-diagnosis.ps K·diagnosis-read-diagnosis.r R·diagnosis-read-diagnosis.Learnt (λ κs z y e f. z ≡ y)
+diagnosis-read-diagnosis κs a z y e f p q = same p q
+
+pub diagnosis-store-extended : Coincide 2 K·diagnosis-store-extended.ps K·diagnosis-store-extended.r R·diagnosis-store-extended.Learnt (λ κs z y e f. (z ≡ y) × (now (e .0) ≡ now (f .0)))
+diagnosis-store-extended κs a z y e f p q = (same (p .stored) (q .stored), same (p .bytes) (q .bytes))
+
+pub request-control-header : Coincide 0 K·request-control-header.ps K·request-control-header.r R·request-control-header.Learnt (λ κs z y e f. z ≡ y)
+request-control-header κs a z y e f p q = same p q
+
+pub request-Request-number : Coincide 0 K·request-Request-number.ps K·request-Request-number.r R·request-Request-number.Learnt (λ κs z y e f. z ≡ y)
+request-Request-number κs a z y e f p q = same p q
+
+pub request-Request-header : Coincide 0 K·request-Request-header.ps K·request-Request-header.r R·request-Request-header.Learnt (λ κs z y e f. z ≡ y)
+request-Request-header κs a z y e f p q = same p q
+
+pub write-write-parameters : Coincide 2 K·write-write-parameters.ps K·write-write-parameters.r R·write-write-parameters.Learnt (λ κs z y e f. (z ≡ y) × (now (e .1 .1 .1 .0) ≡ now (f .1 .1 .1 .0)))
+write-write-parameters κs a z y e f p q = (same (p .len) (q .len), same (p .bytes) (q .bytes))
+
+pub write-write-bytes : Coincide 2 K·write-write-bytes.ps K·write-write-bytes.r R·write-write-bytes.Learnt (λ κs z y e f. (z ≡ y) × (now (e .1 .0) ≡ now (f .1 .0)))
+write-write-bytes κs a z y e f p q = (same (p .len) (q .len), same (p .bytes) (q .bytes))
+
+pub write-write-zeros : Coincide 1 K·write-write-zeros.ps K·write-write-zeros.r R·write-write-zeros.Learnt (λ κs z y e f. (z ≡ y) × (now (e .1 .0) ≡ now (f .1 .0)))
+write-write-zeros κs a z y e f p q = (same (p .len) (q .len), same (p .bytes) (q .bytes))
+
+pub write-write-control : Coincide 1 K·write-write-control.ps K·write-write-control.r R·write-write-control.Learnt (λ κs z y e f. (z ≡ y) × (now (e .1 .0) ≡ now (f .1 .0)))
+write-write-control κs a z y e f p q = (same (p .len) (q .len), same (p .bytes) (q .bytes))

@@ -1,0 +1,125 @@
+-- An accepted add keeps what holds of unit and log.
+-- The idea: the new slot was empty, its range lies after all others and is zeroed.
+use mathlib.Core.Path.{_≡_, refl, sym, ap, _∙_, subst}
+use mathlib.Core.Bool.{true, false, false≢true}
+use mathlib.Core.Logic.{_⊎_, inl, ⊎-elim}
+use mathlib.Core.List.{List}
+use mathlib.Core.Option.{none}
+use Prim.Native.Nat.{ℕ, _+_, _≤_, _<_}
+use native.Mathlib.Omega.{arith}
+use lib.ListN.{length, getD, set, length-replicate}
+use lib.Seq.{getD-set-other}
+use lib.Dec.{eqb}
+use borrow.Author.Tests.{eq-eqb, not-true}
+use Rattle.parts.specs.Parts.{part, roomFor, zeros}
+use Rattle.parts.proofs.Laws.{inside-yes, room-yes, part-put, part-put-other, length-put}
+use Rattle.peripheral.specs.declared.record.Peripheral.{Peripheral}
+use Rattle.peripheral.specs.Record.{newOf, inputImage}
+use Rattle.peripheral_set.specs.Marks.{slots, firstEmpty}
+use Rattle.peripheral_set.proofs.Laws.{search-found}
+use Rattle.cycle.specs.declared.refusal.Lent.{Lent}
+use Rattle.cycle.specs.declared.refusal.Lengths.{Lengths}
+use Rattle.cycle.proofs.Laws.{lent-inputs, add-slot, add-room, input-room}
+use Rattle.master.specs.declared.unit.DpMaster.{DpMaster}
+use Rattle.master.specs.declared.add.Addition.{Addition}
+use Rattle.master.specs.Add.{rangesAt, optionsHeld, cleared, lengthsOf, userOf, configOf}
+use Rattle.valid.specs.Valid.{Valid, balance, occupied}
+use Rattle.log.specs.Calls.{World, lend, back, add, added, addStep, addNumber}
+use Rattle.log.specs.Words.{Entry, Note, wasAdded, Frame, slotLog, frameAfter, imageOf}
+use Rattle.log.proofs.Stations.{Told, Fits, told-added}
+use Rattle.log.proofs.Lent.{lent-same, lent-back}
+use Rattle.log.proofs.Units.{Inv, InvAt, at-set}
+
+-- so many zeros put into a range of the pool
+cleared-part : (at n : ℕ) (pool : List ℕ) → at + n ≤ length pool → part at n (cleared at n pool) ≡ zeros n
+cleared-part at n pool h =
+    let z : length (zeros n) ≡ n = length-replicate n 0 in
+    let r : roomFor at n (zeros n) pool ≡ true = room-yes at n (zeros n) pool (omega arith) (inside-yes at n pool h) in
+    (rw z at (part-put at n (zeros n) pool)) ∙ rw r refl
+
+module _ (w : World) (l : List Entry) (i : Inv w l) (a : Addition) (user config : List ℕ) (lent : Lent) (z : addNumber a user config lent w ≡ 0) where
+  m : DpMaster
+  m = w .unit
+
+  sizes : Lengths
+  sizes = lengthsOf a user config
+
+  t : ℕ
+  t = firstEmpty (w .unit .occupied)
+
+  fresh : Peripheral
+  fresh = newOf (a .address) (optionsHeld (a .options) sizes) (rangesAt (w .unit .used) sizes)
+
+  lengths : Lent
+  lengths =
+      record {
+        setup = length (lend (lent .setup) (w .pools .setup));
+        inputs = length (lend (lent .inputs) (w .pools .inputs));
+        outputs = length (lend (lent .outputs) (w .pools .outputs));
+        diags = length (lend (lent .diags) (w .pools .diags));
+      }
+
+  below : t < slots
+  unfolding t lengths sizes
+  below = add-slot (w .unit .parameters) (w .unit .used) lengths t (a .address) sizes z
+
+  in-table : t < length (w .unit .peripherals)
+  in-table = omega (arith, below, i .valid .table)
+
+  was-empty : getD (w .unit .occupied) t false ≡ false
+  unfolding t
+  was-empty = not-true _ (search-found slots false (w .unit .occupied) slots 0 below)
+
+  -- what was lent of the inputs
+  pool-length : length (lend (lent .inputs) (w .pools .inputs)) ≡ w .unit .parameters .«input_pool»
+  unfolding t lengths sizes
+  pool-length = lent-inputs (w .unit .parameters) (w .unit .used) lengths t (a .address) sizes z
+
+  range-fits : w .unit .used .inputs + a .«input_len» ≤ length (lend (lent .inputs) (w .pools .inputs))
+  unfolding t lengths sizes
+  range-fits = rw pool-length (input-room (w .unit .parameters) (w .unit .used) sizes (add-room (w .unit .parameters) (w .unit .used) lengths t (a .address) sizes z))
+
+  old : (s : ℕ) → getD (set (w .unit .occupied) t true) s false ≡ true → (s ≡ t → ⊥) → occupied (w .unit) s
+  old s u d = sym (getD-set-other (w .unit .occupied) t s true false d) ∙ u
+
+  -- the inputs afterwards, as they are lent
+  inputs-after : lend (w .unit .parameters .«input_pool») (back (lent .inputs) (cleared (w .unit .used .inputs) (a .«input_len») (lend (lent .inputs) (w .pools .inputs))) (w .pools .inputs))
+      ≡ cleared (w .unit .used .inputs) (a .«input_len») (lend (lent .inputs) (w .pools .inputs))
+  inputs-after =
+      lent-back (lent .inputs) (w .unit .parameters .«input_pool») (w .pools .inputs) pool-length _
+      (length-put (w .unit .used .inputs) (a .«input_len») (zeros (a .«input_len»)) (lend (lent .inputs) (w .pools .inputs)))
+
+  other-image : (s : ℕ) → occupied (w .unit) s
+      → inputImage (balance (w .unit) s) (cleared (w .unit .used .inputs) (a .«input_len») (lend (lent .inputs) (w .pools .inputs))) ≡ imageOf (slotLog s l)
+  other-image s o =
+      let p = balance (w .unit) s in
+      part-put-other (w .unit .used .inputs) (a .«input_len») (zeros (a .«input_len»)) (lend (lent .inputs) (w .pools .inputs)) (p .ranges .inputs) (p .ranges .«input_len») (inl (i .valid .placed s o .inputEnd))
+      ∙ rw (lent-same (lent .inputs) (w .unit .parameters .«input_pool») (w .pools .inputs) pool-length) (i .images s o)
+
+  not-new : eqb (w .unit .state .«open_kind») 0 ≡ false → w .unit .state .«open_slot» ≡ t → ⊥
+  not-new k e =
+      ⊎-elim (λ q. false≢true (sym k ∙ eq-eqb (w .unit .state .«open_kind») 0 q))
+      (λ o. false≢true (sym was-empty ∙ (subst (λ (s : ℕ). getD (w .unit .occupied) s false ≡ true) e o))) (i .valid .opened)
+
+  pub inv-add : (n : ℕ) → let o = addStep true n (lengthsOf a user config) a (userOf a user) (configOf a config) lent w in Valid (o .world .unit) → InvAt (add a user config lent) (o .answer) (o .world) l
+  unfolding t sizes
+  inv-add n v =
+      let ps = w .unit .peripherals in
+      let notes : ℕ → List Note = λ s. slotLog s l in
+      let here = in-table in
+      let pool : List ℕ = cleared (w .unit .used .inputs) (a .«input_len») (lend (lent .inputs) (w .pools .inputs)) in
+      record {
+        valid = v;
+        frame-is = ap (λ (f : Frame). frameAfter (add a user config lent) (added n (record { slot = t; address = a .address })) none f) (i .frame-is);
+        told = λ s u. at-set (λ (r : Peripheral) (x : List Note). Told (r .station) x) ps notes t _ (wasAdded (a .«input_len»)) here s (λ q. told-added (a .address) (a .«input_len») (slotLog t l)) (λ d. i .told s (old s u d));
+        link = λ k.
+            let y = i .link k in
+            record {
+              aimed = y .aimed;
+              fit = at-set (λ (r : Peripheral) (x : List Note). Fits (r .station) x) ps notes t _ (wasAdded (a .«input_len»)) here (w .unit .state .«open_slot») (λ q. absurd (not-new k q)) (λ d. y .fit);
+            };
+        images = λ s u.
+            at-set (λ (r : Peripheral) (x : List Note). inputImage r (lend (w .unit .parameters .«input_pool») (back (lent .inputs) pool (w .pools .inputs))) ≡ imageOf x) ps notes t _ (wasAdded (a .«input_len»)) here s
+            (λ q. rw inputs-after (cleared-part (w .unit .used .inputs) (a .«input_len») (lend (lent .inputs) (w .pools .inputs)) range-fits))
+            (λ d. rw inputs-after (other-image s (old s u d)));
+      }

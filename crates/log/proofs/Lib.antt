@@ -1,0 +1,14 @@
+pub mod Ties
+pub mod Functions
+pub mod Steps
+pub mod Wording
+pub mod Stations
+pub mod Visits
+pub mod Lent
+pub mod Units
+pub mod Adding
+pub mod Replying
+pub mod Turning
+pub mod Promised
+pub mod Life
+pub mod Wrong

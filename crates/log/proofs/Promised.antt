@@ -1,0 +1,162 @@
+-- The promises, proved: over every creation, every contents of the pools and every list of calls.
+-- The idea: the invariant holds of a fresh unit and an empty log, each accepted call keeps it, and a refused one changes nothing.
+use mathlib.Core.Path.{_≡_, refl, sym, _∙_, subst}
+use mathlib.Core.Bool.{Bool, true, false, not, _&&_, false≢true}
+use mathlib.Core.Logic.{_↔_}
+use mathlib.Core.List.{List, [], _∷_}
+use Prim.Native.Nat.{ℕ}
+use lib.ListN.{length, getD, replicate, length-replicate, getD-replicate, List·getD-eq-default}
+use lib.Dec.{T, eqb, ltb, leb}
+use borrow.Author.Tests.{eqb-true, eq-eqb, ltb-true, ltb-false, lt-ltb}
+use Rattle.parts.specs.Parts.{pick}
+use Rattle.parts.proofs.Laws.{by-test}
+use Rattle.fdl.specs.declared.parameters.Parameters.{Parameters}
+use Rattle.fdl.specs.Params.{inRange, held, lowest}
+use Rattle.peripheral_set.specs.Marks.{slots}
+use Rattle.master.specs.Unit.{emptyUnit, createdOf}
+use Rattle.master.specs.Add.{userOf, configOf, lengthsOf}
+use Rattle.master.specs.Turn.{stepAt, sweptBy}
+use Rattle.master.specs.Reply.{replyAt}
+use Rattle.valid.specs.Valid.{Valid, balance, occupied}
+use Rattle.access.specs.Lookup.{foundIn}
+use Rattle.master.specs.declared.unit.DpMaster.{DpMaster}
+use Rattle.valid.proofs.Balances.{marked-below}
+use Rattle.peripheral_set.specs.declared.PeripheralHandle.{PeripheralHandle}
+use Rattle.log.specs.Calls.{Pools, World, lend, Call, add, enter, turn, reply, reset, wish, write, hand, accepted, addStep, turnStep, replyStep, addNumber, turnNumber, replyNumber, turnPayloadAt, step}
+use Rattle.log.specs.Words.{Entry, turnOf, reportedOffline, slotLog, frameOf, occupiedIn, reached, dueOf, asksData}
+use Rattle.log.specs.Run.{run}
+use Rattle.log.specs.Promises.{ImageTold, ReadTold, FrameTold, AskedTold, NeverOverlap}
+use Rattle.log.proofs.Wording.{and-l, and-r, ready, wording, due-wording}
+use Rattle.log.proofs.Steps.{turn-accepted, reply-accepted, refused-same, valid-step, always-valid}
+use Rattle.log.proofs.Units.{Inv, InvAt, inv-enter, inv-write, inv-hand, inv-wish, inv-reset}
+use Rattle.log.proofs.Lent.{lent-same}
+use Rattle.log.proofs.Adding.{inv-add}
+use Rattle.log.proofs.Replying.{inv-reply}
+use Rattle.log.proofs.Turning.{inv-turn, asked-step}
+
+-- ---- a fresh unit
+
+no-mark : (n i : ℕ) → getD (replicate n false) i false ≡ false
+no-mark n i =
+    by-test (ltb i n) (λ e. getD-replicate n i false false (ltb-true i n e))
+    (λ e. List·getD-eq-default (replicate n false) false (simp length-replicate (ltb-false i n e)))
+
+inv-empty : (u : Parameters) (pools : Pools) → Valid (emptyUnit u) → Inv (record { unit = emptyUnit u; pools = pools }) []
+unfolding emptyUnit
+inv-empty u pools v =
+    record {
+      valid = v;
+      frame-is = refl;
+      told = λ s o. absurd (false≢true (sym (no-mark slots s) ∙ o));
+      link = λ e. absurd (false≢true (sym e));
+      images = λ s o. absurd (false≢true (sym (no-mark slots s) ∙ o));
+    }
+
+inv-fresh : (u : Parameters) (pools : Pools) → Valid (createdOf u .master) → Inv (record { unit = createdOf u .master; pools = pools }) []
+unfolding createdOf
+inv-fresh u pools v = by-test (inRange u) (λ e. rw e (inv-empty (held u) pools (rw e at v))) (λ e. rw e (inv-empty lowest pools (rw e at v)))
+
+-- ---- an accepted call
+
+module _ (w : World) (l : List Entry) (i : Inv w l) where
+  add-kept : (a : _) (user config : List ℕ) (lent : _) (b : Bool) → b ≡ true → eqb (addNumber a user config lent w) 0 ≡ b
+      → let o = addStep b (addNumber a user config lent w) (lengthsOf a user config) a (userOf a user) (configOf a config) lent w in Valid (o .world .unit) → InvAt (add a user config lent) (o .answer) (o .world) l
+  add-kept a user config lent true t e v = inv-add w l i a user config lent (eqb-true (addNumber a user config lent w) 0 e) (addNumber a user config lent w) v
+  add-kept a user config lent false t e v = absurd (false≢true t)
+
+  turn-kept : (time : ℕ) (high : Bool) (ns nq : ℕ) (buf : List ℕ) (b : Bool) → b ≡ true
+      → let o = turnStep b (turnNumber time ns nq buf w) (stepAt time high (w .unit)) (sweptBy (stepAt time high (w .unit)) (w .unit)) (turnPayloadAt time high ns nq w) time buf w in
+      Valid (o .world .unit) → InvAt (turn time high ns nq buf) (o .answer) (o .world) l
+  turn-kept time high ns nq buf true t v = inv-turn w l i (turnPayloadAt time high ns nq w) buf time high ns nq _ v
+  turn-kept time high ns nq buf false t v = absurd (false≢true t)
+
+  reply-kept : (address : ℕ) (t : _) (payload : List ℕ) (ni nd : ℕ) (b : Bool) → b ≡ true → eqb (replyNumber address t payload ni nd w) 0 ≡ b
+      → let o = replyStep b (replyNumber address t payload ni nd w) (replyAt t (w .unit) payload (lend ni (w .pools .inputs)) (lend nd (w .pools .diags))) t payload ni nd w in
+      Valid (o .world .unit) → InvAt (reply address t payload ni nd) (o .answer) (o .world) l
+  reply-kept address t payload ni nd true q e v = inv-reply w l i address t payload ni nd (eqb-true (replyNumber address t payload ni nd w) 0 e) (replyNumber address t payload ni nd w) v
+  reply-kept address t payload ni nd false q e v = absurd (false≢true q)
+
+  kept : (c : Call) → accepted (step w c .answer) ≡ true → Valid (step w c .world .unit) → InvAt c (step w c .answer) (step w c .world) l
+  unfolding step
+  kept (add a user config lent) e v = add-kept a user config lent (eqb (addNumber a user config lent w) 0) e refl v
+  kept (enter o) e v = inv-enter w l i o _ v
+  kept (turn time high ns nq buf) e v =
+      turn-kept time high ns nq buf (eqb (turnNumber time ns nq buf w) 0)
+      (sym (turn-accepted (eqb (turnNumber time ns nq buf w) 0) (turnNumber time ns nq buf w) (stepAt time high (w .unit)) (sweptBy (stepAt time high (w .unit)) (w .unit)) (turnPayloadAt time high ns nq w) time buf w refl) ∙ e) v
+  kept (reply address t payload ni nd) e v =
+      reply-kept address t payload ni nd (eqb (replyNumber address t payload ni nd w) 0)
+      (sym (reply-accepted (eqb (replyNumber address t payload ni nd w) 0) (replyNumber address t payload ni nd w) (replyAt t (w .unit) payload (lend ni (w .pools .inputs)) (lend nd (w .pools .diags))) t payload ni nd w refl) ∙ e) refl v
+  kept (reset h address) e v = inv-reset w l i h address e v
+  kept (wish h) e v = inv-wish w l i h e v
+  kept (write h bytes nq) e v = inv-write w l i h bytes nq _ _
+  kept (hand h bytes nq) e v = inv-hand w l i h bytes nq _ _
+
+  -- any call
+  any-call : (c : Call) (b : Bool) → accepted (step w c .answer) ≡ b → Inv (step w c .world) (pick b (record { call = c; answer = step w c .answer } ∷ l) l)
+  any-call c true e = kept c e (valid-step w c (i .valid))
+  any-call c false e = subst (λ (x : World). Inv x l) (sym (refused-same w c e)) i
+
+inv-run : (u : Parameters) (pools : Pools) (cs : List Call) → Inv (run u pools cs .world) (run u pools cs .log)
+inv-run u pools [] = inv-fresh u pools (always-valid u pools [])
+inv-run u pools (c ∷ cs) = any-call (run u pools cs .world) (run u pools cs .log) (inv-run u pools cs) c (accepted (step (run u pools cs .world) c .answer)) refl
+
+-- ---- what the log says is occupied is so
+
+is-true : (b : Bool) → T b → b ≡ true
+is-true true h = refl
+is-true false h = absurd h
+
+there : (w : World) (l : List Entry) (i : Inv w l) (s : ℕ) → T (occupiedIn l s) → occupied (w .unit) s
+there w l i s h = is-true _ (rw (← i .frame-is) at h)
+
+-- ---- the promises
+
+pub image-told : ImageTold
+image-told u pools cs s h = let i = inv-run u pools cs in i .images s (there (run u pools cs .world) (run u pools cs .log) i s h)
+
+pub frame-told : FrameTold
+frame-told u pools cs = inv-run u pools cs .frame-is
+
+-- the balance of a handle whose slot is occupied
+found-there : (m : DpMaster) → Valid m → (h : PeripheralHandle) → occupied m (h .slot) → foundIn m h ≡ balance m (h .slot)
+unfolding foundIn
+found-there m v h o = let b = lt-ltb (h .slot) slots (marked-below m v (h .slot) o) in rw (b, o) refl
+
+pub read-told : ReadTold
+read-told u pools cs h n r o e q =
+    let w = run u pools cs .world in
+    let i = inv-run u pools cs in
+    let here = there w (run u pools cs .log) i (h .slot) o in
+    q ∙ rw (eq-eqb (length (lend n (w .pools .inputs))) (w .unit .parameters .«input_pool») e, found-there (w .unit) (i .valid) h here, lent-same n (w .unit .parameters .«input_pool») (w .pools .inputs) e) (i .images (h .slot) here)
+
+pub never-overlap : NeverOverlap
+never-overlap u pools cs s t h k d =
+    let i = inv-run u pools cs in
+    i .valid .apart s t (there (run u pools cs .world) (run u pools cs .log) i s h) (there (run u pools cs .world) (run u pools cs .log) i t k) d
+
+from-place : (a b c : Bool) → T (a && b && c) → T (b && c)
+from-place true b c h = h
+from-place false b c h = absurd h
+
+-- asked, of any unit and log for which the invariant holds
+module _ (w : World) (l : List Entry) (i : Inv w l) (time : ℕ) (high : Bool) (ns nq : ℕ) (buf : List ℕ) (s : ℕ) where
+  asked-by : (b : Bool) → let a = turnOf (turnStep b (turnNumber time ns nq buf w) (stepAt time high (w .unit)) (sweptBy (stepAt time high (w .unit)) (w .unit)) (turnPayloadAt time high ns nq w) time buf w .answer) in
+      T (reached l a s) → T (not (reportedOffline s a)) → asksData s (a .transmission) ≡ (not (dueOf (slotLog s l)) && ready (slotLog s l))
+  asked-by true r t =
+      let o = and-l (occupiedIn l s) (leb (frameOf l .place .slot) s) (and-l (occupiedIn l s && leb (frameOf l .place .slot) s) _ r) in
+      asked-step w l i (stepAt time high (w .unit)) (turnPayloadAt time high ns nq w) buf s (there w l i s o) (from-place (getD (w .unit .occupied) s false) (leb (w .unit .state .slot) s) _ (rw (← i .frame-is) at r)) t
+  asked-by false r t = absurd (and-r (occupiedIn l s && leb (frameOf l .place .slot) s) false r)
+
+split : (a d r : Bool) → a ≡ (not d && r) → T a ↔ ((T d → ⊥) × T r)
+split a true true e = (λ h. absurd (rw e at h), λ h. absurd (h .0 tt))
+split a true false e = (λ h. absurd (rw e at h), λ h. absurd (h .1))
+split a false true e = (λ h. (λ z. z, tt), λ h. rw e tt)
+split a false false e = (λ h. absurd (rw e at h), λ h. absurd (h .1))
+
+pub asked-told : AskedTold
+unfolding step
+asked-told u pools cs time high ns nq buf s r t =
+    let w = run u pools cs .world in
+    let n = slotLog s (run u pools cs .log) in
+    let e = split _ (dueOf n) (ready n) (asked-by w (run u pools cs .log) (inv-run u pools cs) time high ns nq buf s (eqb (turnNumber time ns nq buf w) 0) r t) in
+    (λ h. (λ q. e .0 h .0 (due-wording n .1 q), wording n .0 (e .0 h .1)), λ h. e .1 (λ q. h .0 (due-wording n .0 q), wording n .1 (h .1)))

@@ -1,0 +1,139 @@
+-- An accepted reply keeps what holds of unit and log.
+-- The idea: it is from the slot that the newest turn asked; its balance hears it, its image is written where DataExchanged is reported, and no other changes.
+use mathlib.Core.Path.{_≡_, refl, sym, ap, _∙_}
+use mathlib.Core.Bool.{Bool, true, false, not, false≢true}
+use mathlib.Core.Logic.{_⊎_, ⊎-elim}
+use mathlib.Core.List.{List, _∷_}
+use Prim.Native.Nat.{ℕ, _<_}
+use native.Mathlib.Omega.{arith}
+use lib.ListN.{length, set}
+use lib.Dec.{eqb, ltb}
+use borrow.Author.Tests.{eqb-true, eq-eqb, lt-ltb, not-true}
+use Rattle.parts.proofs.Laws.{by-test}
+use Rattle.fdl.specs.Reply.{carried, usableReply}
+use Rattle.fdl.specs.declared.telegram.Telegram.{Telegram}
+use Rattle.station.specs.declared.state.PeripheralEvent.{PeripheralEvent}
+use Rattle.station.specs.Reply.{isExchanged}
+use Rattle.peripheral.specs.declared.record.Peripheral.{Peripheral}
+use Rattle.peripheral.specs.Record.{inputImage}
+use Rattle.peripheral.specs.Reply.{withHeard, hearsOf, inputsOf}
+use Rattle.peripheral.proofs.Laws.{inputs-kept, inputs-length, inputs-other, exchanged-image}
+use Rattle.peripheral_set.specs.Marks.{slots, nextAfter}
+use Rattle.cycle.specs.declared.state.DpMasterState.{DpMasterState}
+use Rattle.cycle.specs.Seen.{indexOf}
+use Rattle.cycle.specs.State.{answered}
+use Rattle.cycle.specs.Refusal.{unless, replyRefusal}
+use Rattle.cycle.proofs.Laws.{passed, after}
+use Rattle.answers.specs.declared.reply.ReplyAnswer.{ReplyAnswer}
+use Rattle.master.specs.declared.unit.DpMaster.{DpMaster}
+use Rattle.master.specs.Unit.{stateIs, balancesAre}
+use Rattle.master.specs.Reply.{openBalance, replyAt}
+use Rattle.valid.specs.Valid.{Valid, balance, occupied}
+use Rattle.valid.proofs.Balances.{marked-below}
+use Rattle.log.specs.Calls.{World, lend, back, reply, replied, replyStep, replyNumber}
+use Rattle.log.specs.Words.{Entry, Note, got, Place, slotLog, placeNext, imageOf}
+use Rattle.log.specs.Promises.{frameIn}
+use Rattle.log.proofs.Stations.{Told, told-replied}
+use Rattle.log.proofs.Lent.{lent-same, lent-back}
+use Rattle.log.proofs.Units.{Inv, InvAt, at-set}
+
+two : _≡_ {A = ℕ} 2 0 → ⊥
+two e = omega arith
+
+nine : _≡_ {A = ℕ} 9 0 → ⊥
+nine e = omega arith
+
+closes : (next : ℕ) (s : DpMasterState) → eqb (answered next s .«open_kind») 0 ≡ true
+closes next s = by-test (ltb next slots) (λ e. rw e refl) (λ e. rw e refl)
+
+place-is : (next : ℕ) (s : DpMasterState) → _≡_ {A = Place} (record { slot = answered next s .slot; past = answered next s .completed }) (placeNext next)
+place-is next s = by-test (ltb next slots) (λ e. rw e refl) (λ e. rw e refl)
+
+mode-is : (next : ℕ) (s : DpMasterState) → answered next s .operating ≡ s .operating
+mode-is next s = by-test (ltb next slots) (λ e. rw e refl) (λ e. rw e refl)
+
+module _ (w : World) (l : List Entry) (i : Inv w l) (address : ℕ) (r : Telegram) (payload : List ℕ) (ni nd : ℕ) (z : replyNumber address r payload ni nd w ≡ 0) where
+  x : ℕ
+  x = w .unit .state .«open_slot»
+
+  p : Peripheral
+  p = balance (w .unit) (w .unit .state .«open_slot»)
+
+  pool : List ℕ
+  pool = lend ni (w .pools .inputs)
+
+  first-two : unless (eqb (length (lend nd (w .pools .diags))) (w .unit .parameters .«diag_pool»)) 2
+      (unless (not (eqb (w .unit .state .«open_kind») 0)) 9 (unless (ltb (w .unit .state .«open_slot») slots) 9 (unless (eqb address (openBalance (w .unit) .station .address)) 9 (unless (usableReply r (length payload)) 10 0)))) ≡ 0
+  unfolding replyRefusal
+  first-two = after (eqb (length (lend ni (w .pools .inputs))) (w .unit .parameters .«input_pool»)) 2 _ two z
+
+  is-open : eqb (w .unit .state .«open_kind») 0 ≡ false
+  is-open = not-true _ (passed (not (eqb (w .unit .state .«open_kind») 0)) 9 _ nine (after (eqb (length (lend nd (w .pools .diags))) (w .unit .parameters .«diag_pool»)) 2 _ two first-two))
+
+  pool-length : length (lend ni (w .pools .inputs)) ≡ w .unit .parameters .«input_pool»
+  unfolding replyRefusal
+  pool-length = eqb-true _ _ (passed (eqb (length (lend ni (w .pools .inputs))) (w .unit .parameters .«input_pool»)) 2 _ two z)
+
+  there : occupied (w .unit) (w .unit .state .«open_slot»)
+  there = ⊎-elim (λ e. absurd (false≢true (sym is-open ∙ eq-eqb (w .unit .state .«open_kind») 0 e))) (λ o. o) (i .valid .opened)
+
+  below : w .unit .state .«open_slot» < slots
+  below = marked-below (w .unit) (i .valid) (w .unit .state .«open_slot») there
+
+  index-is : indexOf (w .unit .state .«open_slot») ≡ w .unit .state .«open_slot»
+  index-is = rw (lt-ltb (w .unit .state .«open_slot») slots below) refl
+
+  -- the inputs as they are lent before and after
+  event : PeripheralEvent
+  event = hearsOf r p payload pool (lend nd (w .pools .diags)) .event
+
+  own-image : (b : Bool) (e : PeripheralEvent) → isExchanged e ≡ b → (isExchanged e ≡ true → inputImage p (inputsOf e (carried r payload) p pool) ≡ carried r payload) → inputImage p pool ≡ imageOf (slotLog x l)
+      → inputImage p (inputsOf e (carried r payload) p pool) ≡ imageOf (got r payload e ∷ slotLog x l)
+  own-image true e q f h = f q ∙ rw q refl
+  own-image false e q f h = ap (inputImage p) (inputs-kept e (carried r payload) p pool q) ∙ h ∙ rw q refl
+
+  seen-image : (s : ℕ) → occupied (w .unit) s → inputImage (balance (w .unit) s) pool ≡ imageOf (slotLog s l)
+  unfolding pool
+  seen-image s o = rw (lent-same ni (w .unit .parameters .«input_pool») (w .pools .inputs) pool-length) (i .images s o)
+
+  image-here : inputImage p (inputsOf event (carried r payload) p pool) ≡ imageOf (got r payload event ∷ slotLog x l)
+  unfolding event p x
+  image-here = own-image (isExchanged event) event refl (exchanged-image r p payload pool (lend nd (w .pools .diags))) (seen-image x there)
+
+  image-there : (s : ℕ) → occupied (w .unit) s → (s ≡ x → ⊥) → inputImage (balance (w .unit) s) (inputsOf event (carried r payload) p pool) ≡ imageOf (slotLog s l)
+  unfolding p x
+  image-there s o d =
+      inputs-other event (carried r payload) p pool (balance (w .unit) s .ranges .inputs) (balance (w .unit) s .ranges .«input_len») (i .valid .apart s x o there d .inputs) ∙ seen-image s o
+
+  inputs-after : lend (w .unit .parameters .«input_pool») (back ni (inputsOf event (carried r payload) p pool) (w .pools .inputs)) ≡ inputsOf event (carried r payload) p pool
+  unfolding pool
+  inputs-after = lent-back ni (w .unit .parameters .«input_pool») (w .pools .inputs) pool-length _ (inputs-length event (carried r payload) p pool)
+
+  -- the reply at that slot
+  inv-at : (a : ReplyAnswer) (diags : List ℕ) (next : ℕ) → a .event ≡ event → next ≡ nextAfter (w .unit .occupied) x
+      → let m : DpMaster = stateIs (answered next (w .unit .state)) (balancesAre (set (w .unit .peripherals) x (withHeard p (hearsOf r p payload pool (lend nd (w .pools .diags))) .peripheral)) (w .unit)) in
+      Valid m
+      → InvAt (reply address r payload ni nd) (replied a) (record { unit = m; pools = record { setup = w .pools .setup; inputs = back ni (inputsOf event (carried r payload) p pool) (w .pools .inputs); outputs = w .pools .outputs; diags = diags } }) l
+  unfolding event x p
+  inv-at a diags next ea en v =
+      let k = i .link is-open in
+      let ps = w .unit .peripherals in
+      let notes : ℕ → List Note = λ s. slotLog s l in
+      let here : x < length ps = omega (arith, below, i .valid .table) in
+      record {
+        valid = v;
+        frame-is = rw (mode-is next (w .unit .state), k .aimed, ← i .frame-is, en) (ap (λ (q : Place). record { mode = frameIn (w .unit) .mode; marks = w .unit .occupied; place = q }) (rw en at (place-is next (w .unit .state))));
+        told = λ s u.
+            rw (k .aimed, ea)
+            (at-set (λ (q : Peripheral) (n : List Note). Told (q .station) n) ps notes x _ (got r payload event) here s (λ e. told-replied r p payload pool (lend nd (w .pools .diags)) (slotLog x l) (k .fit) (i .told x there)) (λ d. i .told s u));
+        link = λ c. absurd (false≢true (sym c ∙ closes next (w .unit .state)));
+        images = λ s u.
+            rw (k .aimed, ea)
+            (at-set (λ (q : Peripheral) (n : List Note). inputImage q (lend (w .unit .parameters .«input_pool») (back ni (inputsOf event (carried r payload) p pool) (w .pools .inputs))) ≡ imageOf n) ps notes x _ (got r payload event) here s
+            (λ e. rw inputs-after image-here) (λ d. rw inputs-after (image-there s u d)));
+      }
+
+  pub inv-reply : (n : ℕ) → let o = replyStep true n (replyAt r (w .unit) payload (lend ni (w .pools .inputs)) (lend nd (w .pools .diags))) r payload ni nd w in
+      Valid (o .world .unit) → InvAt (reply address r payload ni nd) (o .answer) (o .world) l
+  unfolding replyAt event x p pool
+  inv-reply n v = rw index-is (inv-at _ _ (nextAfter (w .unit .occupied) x) refl refl (rw index-is at v))

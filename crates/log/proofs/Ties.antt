@@ -1,0 +1,122 @@
+-- Whatever a contract allows is what `step` says: for each call, over the parts of the pools that it is lent.
+-- The idea: `step` is made of the right-hand sides of the contracts, so each equation of a contract is one field.
+use mathlib.Core.Path.{_≡_, refl, sym, _∙_, subst}
+use Prim.Native.Nat.{ℕ, _+_, _≤_}
+use native.Mathlib.Omega.{arith}
+use mathlib.Core.Bool.{Bool, true, false, false≢true}
+use mathlib.Core.List.{List, []}
+use lib.ListN.{length}
+use lib.Dec.{eqb}
+use Rattle.parts.specs.Parts.{pick, inside, part, roomFor, putIn}
+use Rattle.parts.proofs.Laws.{by-test, inside-yes, room-yes, part-put}
+use Rattle.peripheral.specs.Record.{outputImage}
+use Rattle.peripheral_set.specs.Marks.{isOccupied}
+use Rattle.valid.specs.Valid.{Valid, balance, occupied}
+use Rattle.fdl.specs.declared.telegram.Telegram.{Telegram}
+use Rattle.peripheral_set.specs.declared.PeripheralHandle.{PeripheralHandle}
+use Rattle.cycle.specs.declared.refusal.Lent.{Lent}
+use Rattle.cycle.specs.declared.state.OperatingState.{OperatingState}
+use Rattle.cycle.specs.State.{entered}
+use Rattle.master.specs.declared.unit.DpMaster.{DpMaster}
+use Rattle.master.specs.declared.unit.Done.{Done}
+use Rattle.master.specs.declared.add.Addition.{Addition}
+use Rattle.master.specs.declared.add.Added.{Added}
+use Rattle.master.specs.declared.turn.Turn.{Turn}
+use Rattle.master.specs.declared.reply.Answered.{Answered}
+use Rattle.master.specs.Unit.{stateIs}
+use Rattle.master.specs.Add.{Adding}
+use Rattle.master.specs.Turn.{Turned}
+use Rattle.master.specs.Reply.{Received}
+use Rattle.master.specs.Handle.{resetDone, wishDone}
+use Rattle.access.specs.Lookup.{foundIn, Wrote}
+use Rattle.log.specs.Calls.{World, lend, back, add, enter, turn, reply, reset, wish, write, number, added, turned, replied, unitIs, handNumber, step}
+
+module _ (w : World) where
+  pub add-tied : (a : Addition) (user config : List ℕ) (lent : Lent) (outSetup outInputs outOutputs outDiags : List ℕ) (r : Added)
+      → Adding (w .unit) a user config (lend (lent .setup) (w .pools .setup)) (lend (lent .inputs) (w .pools .inputs)) (lend (lent .outputs) (w .pools .outputs)) (lend (lent .diags) (w .pools .diags)) outSetup outInputs outOutputs outDiags r
+      → step w (add a user config lent)
+      ≡ record {
+        world =
+            record {
+              unit = r .master;
+              pools =
+                  record {
+                    setup = back (lent .setup) outSetup (w .pools .setup);
+                    inputs = back (lent .inputs) outInputs (w .pools .inputs);
+                    outputs = back (lent .outputs) outOutputs (w .pools .outputs);
+                    diags = back (lent .diags) outDiags (w .pools .diags);
+                  };
+            };
+        answer = added (r .refusal) (r .handle);
+      }
+  unfolding step
+  add-tied a user config lent outSetup outInputs outOutputs outDiags r c = rw (c .after, c .refusal, c .handle, c .setupPool, c .inputPool, c .outputPool, c .diagPool) refl
+
+  pub enter-tied : (o : OperatingState) (r : DpMaster) → r ≡ stateIs (entered o (w .unit .state)) (w .unit) → step w (enter o) ≡ record { world = unitIs r w; answer = number 0 }
+  unfolding step
+  enter-tied o r e = rw e refl
+
+  pub turn-tied : (time : ℕ) (high : Bool) (ns nq : ℕ) (buf out : List ℕ) (r : Turn) → Turned (w .unit) time high (lend ns (w .pools .setup)) (lend nq (w .pools .outputs)) buf out r
+      → step w (turn time high ns nq buf) ≡ record { world = unitIs (r .master) w; answer = turned (r .answer) out }
+  unfolding step
+  turn-tied time high ns nq buf out r c = rw (c .after, c .answer, c .bytes) refl
+
+  pub reply-tied : (address : ℕ) (t : Telegram) (payload : List ℕ) (ni nd : ℕ) (outInputs outDiags : List ℕ) (r : Answered)
+      → Received (w .unit) address t payload (lend ni (w .pools .inputs)) (lend nd (w .pools .diags)) outInputs outDiags r
+      → step w (reply address t payload ni nd)
+      ≡ record {
+        world =
+            record {
+              unit = r .master;
+              pools = record { setup = w .pools .setup; inputs = back ni outInputs (w .pools .inputs); outputs = w .pools .outputs; diags = back nd outDiags (w .pools .diags) };
+            };
+        answer = replied (r .answer);
+      }
+  unfolding step
+  reply-tied address t payload ni nd outInputs outDiags r c = rw (c .after, c .answer, c .inputPool, c .diagPool) refl
+
+  pub reset-tied : (h : PeripheralHandle) (address : ℕ) (r : Done) → r ≡ resetDone (w .unit) h address → step w (reset h address) ≡ record { world = unitIs (r .master) w; answer = number (r .refusal) }
+  unfolding step
+  reset-tied h address r e = rw e refl
+
+  pub wish-tied : (h : PeripheralHandle) (r : Done) → r ≡ wishDone (w .unit) h → step w (wish h) ≡ record { world = unitIs (r .master) w; answer = number (r .refusal) }
+  unfolding step
+  wish-tied h r e = rw e refl
+
+  pub write-tied : (h : PeripheralHandle) (bytes : List ℕ) (nq : ℕ) (out : List ℕ) (r : ℕ) → Wrote (w .unit) h bytes (lend nq (w .pools .outputs)) out r
+      → step w (write h bytes nq)
+      ≡ record {
+        world =
+            record { unit = w .unit; pools = record { setup = w .pools .setup; inputs = w .pools .inputs; outputs = back nq out (w .pools .outputs); diags = w .pools .diags } };
+        answer = number r;
+      }
+  unfolding step
+  write-tied h bytes nq out r c = rw (c .answer, c .pool) refl
+
+  -- a part that is handed out when the call is refused is empty: nothing can be written there
+  none-at : (l : List ℕ) → part 0 0 l ≡ []
+  unfolding part
+  none-at l = by-test (inside 0 0 l) (λ e. rw e refl) (λ e. rw e refl)
+
+  not-there : (b : Bool) → eqb (pick b 0 4) 0 ≡ false → b ≡ false
+  not-there true e = absurd (false≢true (sym e))
+  not-there false e = refl
+
+  pub hand-empty : (h : PeripheralHandle) (nq : ℕ) (r : List ℕ) → let lent = lend nq (w .pools .outputs) in
+      eqb (handNumber h nq w) 0 ≡ false → r ≡ pick (eqb (length lent) (w .unit .parameters .«output_pool»)) (outputImage (foundIn (w .unit) h) lent) [] → r ≡ []
+  unfolding foundIn
+  hand-empty h nq r e q =
+      by-test (eqb (length (lend nq (w .pools .outputs))) (w .unit .parameters .«output_pool»))
+      (λ t. q ∙ rw (t, not-there (isOccupied (w .unit .occupied) (h .slot)) (rw t at e)) (none-at (lend nq (w .pools .outputs)))) (λ t. q ∙ rw t refl)
+
+-- and any contents of an output image can be put there: bytes as long as the image
+pub hand-any : (w : World) → Valid (w .unit) → (h : PeripheralHandle) (bytes : List ℕ) (nq : ℕ) → let p = balance (w .unit) (h .slot) in
+    let lent = lend nq (w .pools .outputs) in
+    occupied (w .unit) (h .slot) → length lent ≡ w .unit .parameters .«output_pool» → length bytes ≡ p .ranges .«output_len»
+    → outputImage p (putIn (p .ranges .outputs) (p .ranges .«output_len») bytes lent) ≡ bytes
+hand-any w v h bytes nq o n b =
+    let p = balance (w .unit) (h .slot) in
+    let lent = lend nq (w .pools .outputs) in
+    let lies : p .ranges .outputs + p .ranges .«output_len» ≤ length lent = omega (arith, v .placed (h .slot) o .outputEnd, v .within .outputs) in
+    let room : roomFor (p .ranges .outputs) (p .ranges .«output_len») bytes lent ≡ true = room-yes (p .ranges .outputs) (p .ranges .«output_len») bytes lent (omega arith) (inside-yes (p .ranges .outputs) (p .ranges .«output_len») lent lies) in
+    subst (λ (k : ℕ). part (p .ranges .outputs) k (putIn (p .ranges .outputs) (p .ranges .«output_len») bytes lent) ≡ bytes) b (part-put (p .ranges .outputs) (p .ranges .«output_len») bytes lent ∙ rw room refl)

@@ -1,0 +1,258 @@
+-- The visits of one turn, seen from one slot.
+-- The idea: visits before and after slot s leave what is said of s; its own visit decides it; after one that sent nothing more comes.
+use mathlib.Core.Path.{_≡_, refl, sym, ap, _∙_, subst}
+use mathlib.Core.Bool.{Bool, true, false, _&&_, false≢true}
+use mathlib.Core.Logic.{_⊎_, inl, inr, ⊎-elim}
+use mathlib.Core.List.{List}
+use mathlib.Core.Option.{Option, none, some}
+use Prim.Native.Nat.{ℕ, zero, suc, _+_, _-_, _≤_, _<_}
+use native.Mathlib.Omega.{arith}
+use lib.ListN.{length, getD, set, length-set}
+use lib.Seq.{getD-set-same, getD-set-other}
+use lib.Dec.{eqb, ltb, leb}
+use lib.Bits.{bitOr}
+use borrow.Author.Tests.{ne-eqb, eq-eqb, lt-ltb, le-leb, lt-leb, leb-true, leb-false}
+use Rattle.parts.specs.Parts.{pick}
+use Rattle.parts.proofs.Laws.{by-test, and-right}
+use Rattle.telegrams.specs.declared.request.Request.{Request}
+use Rattle.station.specs.declared.visit.Visited.{Visited}
+use Rattle.station.specs.declared.visit.Visited.the-variants.{Sent as Sends, Fell, Skipped}
+use Rattle.station.proofs.Visits.{falls}
+use Rattle.peripheral.specs.declared.record.Peripheral.{Peripheral}
+use Rattle.peripheral.specs.Record.{blank}
+use Rattle.peripheral.specs.Visit.{wishesOf}
+use Rattle.peripheral_set.specs.Marks.{slots}
+use Rattle.cycle.specs.declared.seen.Seen.{Seen}
+use Rattle.cycle.specs.declared.seen.Sent.{Sent}
+use Rattle.cycle.specs.declared.seen.Sent.the-variants.{Nothing, To}
+use Rattle.cycle.specs.Seen.{bitAt, nothingSeen, seenBy, idle}
+use Rattle.master.specs.Turn.{Swept, visitedBy, sweepFrom}
+use Rattle.master.proofs.Bits.{bit, or-bit, pow-bit-same, pow-bit-below, pow-bit-above, zero-bit}
+use Rattle.master.proofs.Sweep.{sweep-skip, sweep-visit, sweep-stopped}
+
+-- the request that went to slot s
+abbrev pub kindSent : ℕ → Sent → Option Request
+kindSent s Nothing = none
+kindSent s (To t k) = pick (eqb s t) (some k) none
+
+-- the visits went at least up to slot s
+abbrev pub wentTo : ℕ → Sent → Bool
+wentTo s Nothing = true
+wentTo s (To t k) = leb s t
+
+abbrev pub kindOf : Visited → Option Request
+kindOf (Sends k) = some k
+kindOf Fell = none
+kindOf Skipped = none
+
+idle-is : (x : Sent) → idle x ≡ true → x ≡ Nothing
+idle-is Nothing e = refl
+idle-is (To t k) e = absurd (false≢true e)
+
+-- ---- one visit
+
+at-other : (i s : ℕ) → (i < s) ⊎ (s < i) → bit s (bitAt i) ≡ 0
+at-other i s d = by-test (ltb i slots) (λ e. rw e (⊎-elim (pow-bit-below i s) (pow-bit-above i s) d)) (λ e. rw e (zero-bit s))
+
+see-other : (v : Visited) (i s : ℕ) (seen : Seen) → (i < s) ⊎ (s < i) → bit s (seenBy i v seen .mask) ≡ bit s (seen .mask)
+see-other (Sends k) i s seen d = refl
+see-other Fell i s seen d = or-bit (seen .mask) (bitAt i) s ∙ rw (at-other i s d) (omega arith)
+see-other Skipped i s seen d = refl
+
+see-here : (v : Visited) (s : ℕ) (seen : Seen) → s < slots → bit s (seenBy s v seen .mask) ≡ pick (falls v) 1 (bit s (seen .mask))
+see-here (Sends k) s seen h = refl
+see-here Fell s seen h = or-bit (seen .mask) (bitAt s) s ∙ rw (lt-ltb s slots h, pow-bit-same s) (omega arith)
+see-here Skipped s seen h = refl
+
+kind-here : (v : Visited) (s : ℕ) (seen : Seen) → idle (seen .sent) ≡ true → kindSent s (seenBy s v seen .sent) ≡ kindOf v
+kind-here (Sends k) s seen e = rw (eq-eqb s s refl) refl
+kind-here Fell s seen e = ap (kindSent s) (idle-is (seen .sent) e)
+kind-here Skipped s seen e = ap (kindSent s) (idle-is (seen .sent) e)
+
+went-here : (v : Visited) (s : ℕ) (seen : Seen) → idle (seen .sent) ≡ true → wentTo s (seenBy s v seen .sent) ≡ true
+went-here (Sends k) s seen e = le-leb s s (omega arith)
+went-here Fell s seen e = ap (wentTo s) (idle-is (seen .sent) e)
+went-here Skipped s seen e = ap (wentTo s) (idle-is (seen .sent) e)
+
+-- a visit to a later slot
+kind-later : (v : Visited) (i s : ℕ) (seen : Seen) → s < i → idle (seen .sent) ≡ true → kindSent s (seenBy i v seen .sent) ≡ kindSent s (seen .sent)
+kind-later (Sends k) i s seen h e = rw (ne-eqb s i (λ q. omega arith)) (sym (ap (kindSent s) (idle-is (seen .sent) e)))
+kind-later Fell i s seen h e = refl
+kind-later Skipped i s seen h e = refl
+
+went-later : (v : Visited) (i s : ℕ) (seen : Seen) → s < i → idle (seen .sent) ≡ true → wentTo s (seenBy i v seen .sent) ≡ wentTo s (seen .sent)
+went-later (Sends k) i s seen h e = le-leb s i (omega arith) ∙ sym (ap (wentTo s) (idle-is (seen .sent) e))
+went-later Fell i s seen h e = refl
+went-later Skipped i s seen h e = refl
+
+-- ---- the visits after slot s
+
+record Beside (s : ℕ) (seen : Seen) (ps : List Peripheral) (w : Swept) : Type 0 where
+  balance : getD (w .balances) s blank ≡ getD ps s blank
+  mask : bit s (w .seen .mask) ≡ bit s (seen .mask)
+  kind : kindSent s (w .seen .sent) ≡ kindSent s (seen .sent)
+  went : wentTo s (w .seen .sent) ≡ wentTo s (seen .sent)
+
+module _ (limit : ℕ) (marks : List Bool) (s : ℕ) where
+  one-later : (g : Bool) (i : ℕ) (seen : Seen) (ps : List Peripheral) → s < i → (g ≡ true → idle (seen .sent) ≡ true)
+      → Beside s seen ps (record { seen = pick g (seenBy i (wishesOf limit (getD ps i blank)) seen) seen; balances = pick g (set ps i (visitedBy limit (getD ps i blank))) ps })
+  one-later true i seen ps h f =
+      record {
+        balance = getD-set-other ps i s (visitedBy limit (getD ps i blank)) blank (λ q. omega arith);
+        mask = see-other (wishesOf limit (getD ps i blank)) i s seen (inr h);
+        kind = kind-later (wishesOf limit (getD ps i blank)) i s seen h (f refl);
+        went = went-later (wishesOf limit (getD ps i blank)) i s seen h (f refl);
+      }
+  one-later false i seen ps h f = record { balance = refl; mask = refl; kind = refl; went = refl }
+
+  after-slot : (k i : ℕ) (seen : Seen) (ps : List Peripheral) → s < i → Beside s seen ps (sweepFrom k limit marks i seen ps)
+  unfolding sweepFrom
+  after-slot zero i seen ps h = record { balance = refl; mask = refl; kind = refl; went = refl }
+  after-slot (suc k) i seen ps h =
+      let g = getD marks i false && idle (seen .sent) in
+      let a = one-later g i seen ps h (λ e. and-right (getD marks i false) (idle (seen .sent)) e) in
+      let b = after-slot k (i + 1) (pick g (seenBy i (wishesOf limit (getD ps i blank)) seen) seen) (pick g (set ps i (visitedBy limit (getD ps i blank))) ps) (omega arith) in
+      record { balance = b .balance ∙ a .balance; mask = b .mask ∙ a .mask; kind = b .kind ∙ a .kind; went = b .went ∙ a .went }
+
+-- ---- what the visits of a turn leave of slot s: visited or not, and if so what its own visit did
+
+pub record Sees (limit s : ℕ) (p : Peripheral) (old : ℕ) (w : Swept) : Type 0 where
+  pub visited : Bool
+  pub balance : getD (w .balances) s blank ≡ pick visited (visitedBy limit p) p
+  pub mask : bit s (w .seen .mask) ≡ pick (visited && falls (wishesOf limit p)) 1 old
+  pub kind : kindSent s (w .seen .sent) ≡ pick visited (kindOf (wishesOf limit p)) none
+  pub went : wentTo s (w .seen .sent) ≡ visited
+
+module _ (limit : ℕ) (marks : List Bool) (s : ℕ) (here : s < slots) (marked : getD marks s false ≡ true) where
+  at-slot : (k : ℕ) (seen : Seen) (ps : List Peripheral) → s < length ps → idle (seen .sent) ≡ true
+      → Sees limit s (getD ps s blank) (bit s (seen .mask)) (sweepFrom (suc k) limit marks s seen ps)
+  at-slot k seen ps h e =
+      let p = getD ps s blank in
+      let v = wishesOf limit p in
+      let b = after-slot limit marks s k (s + 1) (seenBy s v seen) (set ps s (visitedBy limit p)) (omega arith) in
+      subst (Sees limit s p (bit s (seen .mask))) (sym (sweep-visit limit marks k s seen ps marked e))
+      (record {
+        visited = true;
+        balance = b .balance ∙ getD-set-same ps s (visitedBy limit p) blank h;
+        mask = b .mask ∙ see-here v s seen here;
+        kind = b .kind ∙ kind-here v s seen e;
+        went = b .went ∙ went-here v s seen e;
+      })
+
+  -- where the slot before it sent
+  stopped : (k i : ℕ) (seen : Seen) (ps : List Peripheral) (q : Request) (r : Peripheral) → i < s
+      → Sees limit s (getD ps s blank) (bit s (seen .mask)) (sweepFrom k limit marks (i + 1) (seenBy i (Sends q) seen) (set ps i r))
+  stopped k i seen ps q r h =
+      subst (Sees limit s (getD ps s blank) (bit s (seen .mask))) (sym (sweep-stopped limit marks k (i + 1) (seenBy i (Sends q) seen) (set ps i r) refl))
+      (record {
+        visited = false;
+        balance = getD-set-other ps i s r blank (λ z. omega arith);
+        mask = refl;
+        kind = rw (ne-eqb s i (λ z. omega arith)) refl;
+        went = lt-leb s i h;
+      })
+
+  -- what is known of the visits from slot i on: k of them
+  Rest : ℕ → ℕ → Type 0
+  Rest k i = (seen : Seen) (ps : List Peripheral) → s < length ps → idle (seen .sent) ≡ true → Sees limit s (getD ps s blank) (bit s (seen .mask)) (sweepFrom k limit marks i seen ps)
+
+  module _ (k i : ℕ) (rest : Rest k (i + 1)) (seen : Seen) (ps : List Peripheral) (lt : i < s) (h : s < length ps) (e : idle (seen .sent) ≡ true) where
+    go-on : (seen′ : Seen) (r : Peripheral) → bit s (seen′ .mask) ≡ bit s (seen .mask) → idle (seen′ .sent) ≡ true
+        → Sees limit s (getD ps s blank) (bit s (seen .mask)) (sweepFrom k limit marks (i + 1) seen′ (set ps i r))
+    unfolding Rest
+    go-on seen′ r em es =
+        subst (λ (o : ℕ). Sees limit s (getD ps s blank) o (sweepFrom k limit marks (i + 1) seen′ (set ps i r))) em
+        (subst (λ (p : Peripheral). Sees limit s p (bit s (seen′ .mask)) (sweepFrom k limit marks (i + 1) seen′ (set ps i r))) (getD-set-other ps i s r blank (λ x. omega arith))
+        (rest seen′ (set ps i r) (simp length-set h) es))
+
+    one : (v : Visited) (r : Peripheral) → Sees limit s (getD ps s blank) (bit s (seen .mask)) (sweepFrom k limit marks (i + 1) (seenBy i v seen) (set ps i r))
+    one (Sends t) r = stopped k i seen ps t r lt
+    one Fell r = go-on (seenBy i Fell seen) r (see-other Fell i s seen (inl lt)) e
+    one Skipped r = go-on seen r refl e
+
+    one-before : Sees limit s (getD ps s blank) (bit s (seen .mask)) (sweepFrom (suc k) limit marks i seen ps)
+    unfolding Rest
+    one-before =
+        by-test (getD marks i false)
+        (λ m. subst (Sees limit s (getD ps s blank) (bit s (seen .mask))) (sym (sweep-visit limit marks k i seen ps m e)) (one (wishesOf limit (getD ps i blank)) (visitedBy limit (getD ps i blank))))
+        (λ m. subst (Sees limit s (getD ps s blank) (bit s (seen .mask))) (sym (sweep-skip limit marks k i seen ps m)) (rest seen ps h e))
+
+  none-left : (k i : ℕ) → i + 0 ≡ s → Rest (0 + suc k) i
+  unfolding Rest
+  none-left k i q seen ps h e =
+      let z : 0 + suc k ≡ suc k = omega arith in
+      let y : i ≡ s = omega arith in
+      rw (z, y) (at-slot k seen ps h e)
+
+  some-left : (j k i : ℕ) → i + suc j ≡ s → Rest (j + suc k) (i + 1) → Rest (suc j + suc k) i
+  unfolding Rest
+  some-left j k i q rest seen ps h e = let z : suc j + suc k ≡ suc (j + suc k) = omega arith in rw z (one-before (j + suc k) i rest seen ps (omega arith) h e)
+
+  moved : (i j : ℕ) → i + suc j ≡ s → (i + 1) + j ≡ s
+  moved i j q = omega arith
+
+  before-slot : (j k i : ℕ) → i + j ≡ s → Rest (j + suc k) i
+  before-slot zero k i q = none-left k i q
+  before-slot (suc j) k i q = some-left j k i q (before-slot j k (i + 1) (moved i j q))
+
+-- ---- all visits of a turn
+
+-- from: where they start; went is of a slot that is not before it
+pub record Swung (limit from s : ℕ) (p : Peripheral) (w : Swept) : Type 0 where
+  pub visited : Bool
+  pub balance : getD (w .balances) s blank ≡ pick visited (visitedBy limit p) p
+  pub mask : bit s (w .seen .mask) ≡ pick (visited && falls (wishesOf limit p)) 1 0
+  pub kind : kindSent s (w .seen .sent) ≡ pick visited (kindOf (wishesOf limit p)) none
+  pub went : (leb from s && wentTo s (w .seen .sent)) ≡ visited
+
+pub all-visits : (limit : ℕ) (marks : List Bool) (from s : ℕ) (ps : List Peripheral) → s < slots → s < length ps → getD marks s false ≡ true
+    → Swung limit from s (getD ps s blank) (sweepFrom (slots - from) limit marks from nothingSeen ps)
+unfolding Rest
+all-visits limit marks from s ps h n m =
+    by-test (leb from s)
+    (λ l.
+    let f : from ≤ s = leb-true from s l in
+    let z : slots - from ≡ (s - from) + suc (slots - (s + 1)) = omega arith in
+    let b : Sees limit s (getD ps s blank) 0 (sweepFrom (slots - from) limit marks from nothingSeen ps) =
+    rw z (subst (λ (o : ℕ). Sees limit s (getD ps s blank) o (sweepFrom ((s - from) + suc (slots - (s + 1))) limit marks from nothingSeen ps)) (zero-bit s) (before-slot limit marks s h m (s - from) (slots - (s + 1)) from (omega arith) nothingSeen ps n refl)) in
+    record { visited = b .visited; balance = b .balance; mask = b .mask; kind = b .kind; went = rw l (b .went) })
+    (λ l.
+    let f : s < from = leb-false from s l in
+    let b = after-slot limit marks s (slots - from) from nothingSeen ps f in
+    record { visited = false; balance = b .balance; mask = b .mask ∙ zero-bit s; kind = b .kind; went = rw l refl })
+
+-- ---- the event of a turn: its slot is in the mask
+
+Firsts : Seen → Type 0
+Firsts seen = (seen .first ≡ 255) ⊎ (bit (seen .first) (seen .mask) ≡ 1)
+
+or-kept : (a b k : ℕ) → bit k a ≡ 1 → bit k (bitOr a b) ≡ 1
+or-kept a b k e = or-bit a b k ∙ rw e (omega arith)
+
+fell-first : (b : Bool) (i : ℕ) (seen : Seen) → i < slots → eqb (seen .first) 255 ≡ b → Firsts seen
+    → Firsts (record { mask = bitOr (seen .mask) (bitAt i); first = pick b i (seen .first); sent = seen .sent })
+unfolding Firsts
+fell-first true i seen h e f = inr (see-here Fell i seen h)
+fell-first false i seen h e f = ⊎-elim (λ q. absurd (false≢true (sym e ∙ eq-eqb (seen .first) 255 q))) (λ q. inr (or-kept (seen .mask) (bitAt i) (seen .first) q)) f
+
+see-first : (v : Visited) (i : ℕ) (seen : Seen) → i < slots → Firsts seen → Firsts (seenBy i v seen)
+unfolding Firsts
+see-first (Sends k) i seen h f = f
+see-first Fell i seen h f = fell-first (eqb (seen .first) 255) i seen h refl f
+see-first Skipped i seen h f = f
+
+sweep-first : (limit : ℕ) (marks : List Bool) (k i : ℕ) (seen : Seen) (ps : List Peripheral) → i + k ≤ slots → Firsts seen → Firsts (sweepFrom k limit marks i seen ps .seen)
+unfolding sweepFrom
+sweep-first limit marks zero i seen ps h f = f
+sweep-first limit marks (suc k) i seen ps h f =
+    sweep-first limit marks k (i + 1) _ _ (omega arith) (step (getD marks i false && idle (seen .sent)))
+  where
+    step : (g : Bool) → Firsts (pick g (seenBy i (wishesOf limit (getD ps i blank)) seen) seen)
+    step true = see-first (wishesOf limit (getD ps i blank)) i seen (omega arith) f
+    step false = f
+
+pub event-bit : (limit : ℕ) (marks : List Bool) (from : ℕ) (ps : List Peripheral) → from ≤ slots
+    → (sweepFrom (slots - from) limit marks from nothingSeen ps .seen .first ≡ 255)
+    ⊎ (bit (sweepFrom (slots - from) limit marks from nothingSeen ps .seen .first) (sweepFrom (slots - from) limit marks from nothingSeen ps .seen .mask) ≡ 1)
+unfolding Firsts
+event-bit limit marks from ps h = sweep-first limit marks (slots - from) from nothingSeen ps (omega arith) (inl refl)

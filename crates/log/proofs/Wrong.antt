@@ -1,0 +1,72 @@
+-- Each of the five wrong units is told from the promised one at a named input, by computation; and the one that runs all states at the first reply breaks demand 3.
+-- The idea: read one number off both outcomes; where the numbers differ the outcomes do.
+use mathlib.Core.Path.{_≡_, refl, sym, ap, _∙_}
+use mathlib.Core.Bool.{false}
+use Prim.Native.Nat.{ℕ}
+use native.Mathlib.Omega.{arith}
+use Rattle.parts.specs.Parts.{zeros, inside, part, splice, roomFor, putIn}
+use Rattle.fdl.specs.Params.{inRange, held}
+use Rattle.telegrams.specs.Diagnosis.{diagnosisOf}
+use Rattle.telegrams.specs.Payload.{paramHead, controlPayload}
+use Rattle.station.specs.Record.{tookOf}
+use Rattle.station.specs.Visit.{wishOf}
+use Rattle.station.specs.Reply.{byFlags, heardOf}
+use Rattle.peripheral.specs.Visit.{payloadOf}
+use Rattle.peripheral.specs.Reply.{storedLength, diagsTaken, stationTook, isImage, hearsOf}
+use Rattle.peripheral_set.specs.Marks.{searchFrom}
+use Rattle.cycle.specs.State.{dueOf}
+use Rattle.cycle.specs.Refusal.{turnRefusal, replyRefusal, addressRefusal, lengthRefusal, roomRefusal, addRefusal}
+use Rattle.answers.specs.declared.turn.Transmission.{Transmission}
+use Rattle.answers.specs.declared.turn.Transmission.the-variants.{Nothing, Control, Request}
+use Rattle.master.specs.Unit.{emptyUnit, createdOf, balanceAt}
+use Rattle.master.specs.Turn.{sweepFrom, sweptBy, turnPayload, turnAnswer}
+use Rattle.master.specs.Reply.{replyAt}
+use Rattle.log.specs.Calls.{Outcome, refusal, step}
+use Rattle.log.specs.Words.{turnOf, slotLog}
+use Rattle.log.specs.Run.{runBy}
+use Rattle.log.specs.Promises.{AskedBy}
+use Rattle.log.specs.Life.{bench, benchPools, turnAt, diagnosisReply, diagnosisAnswered, startedBench, askedBench}
+use Rattle.log.specs.Wrong.{refusesAll, sameAnswer, doesNothing, runsAll, inventsMask}
+use Rattle.log.proofs.Wording.{wording}
+
+-- what a turn sends: 0 nothing, 1 the global control, 2 a request
+abbrev sends : Transmission → ℕ
+sends Nothing = 0
+sends (Control header) = 1
+sends (Request slot k header) = 2
+
+-- two outcomes of which one number differs
+apart : (f : Outcome → ℕ) (x y : Outcome) (a b : ℕ) → f x ≡ a → f y ≡ b → (a ≡ b → ⊥) → x ≡ y → ⊥
+apart f x y a b p q d e = d (sym p ∙ ap f e ∙ q)
+
+-- refusing everything: the first turn of a bench is done
+pub refuses-all : refusesAll startedBench (turnAt 0) ≡ step startedBench (turnAt 0) → ⊥
+unfolding step inRange held createdOf emptyUnit addRefusal addressRefusal lengthRefusal roomRefusal searchFrom turnRefusal dueOf wishOf sweptBy sweepFrom turnPayload turnAnswer controlPayload payloadOf paramHead inside part splice roomFor putIn replyRefusal replyAt hearsOf heardOf stationTook storedLength diagsTaken diagnosisOf tookOf isImage byFlags
+refuses-all = apart (λ o. refusal (o .answer)) (refusesAll startedBench (turnAt 0)) (step startedBench (turnAt 0)) 2 0 refl refl (λ e. omega arith)
+
+-- the same answer each time: the first turn in Operate sends the global control
+pub same-answer : sameAnswer startedBench (turnAt 0) ≡ step startedBench (turnAt 0) → ⊥
+unfolding step inRange held createdOf emptyUnit addRefusal addressRefusal lengthRefusal roomRefusal searchFrom turnRefusal dueOf wishOf sweptBy sweepFrom turnPayload turnAnswer controlPayload payloadOf paramHead inside part splice roomFor putIn replyRefusal replyAt hearsOf heardOf stationTook storedLength diagsTaken diagnosisOf tookOf isImage byFlags
+same-answer = apart (λ o. sends (turnOf (o .answer) .transmission)) (sameAnswer startedBench (turnAt 0)) (step startedBench (turnAt 0)) 0 1 refl refl (λ e. omega arith)
+
+-- doing nothing: a turn records its time
+pub does-nothing : doesNothing startedBench (turnAt 5) ≡ step startedBench (turnAt 5) → ⊥
+unfolding step inRange held createdOf emptyUnit addRefusal addressRefusal lengthRefusal roomRefusal searchFrom turnRefusal dueOf wishOf sweptBy sweepFrom turnPayload turnAnswer controlPayload payloadOf paramHead inside part splice roomFor putIn replyRefusal replyAt hearsOf heardOf stationTook storedLength diagsTaken diagnosisOf tookOf isImage byFlags
+does-nothing = apart (λ o. o .world .unit .state .«last_turn») (doesNothing startedBench (turnAt 5)) (step startedBench (turnAt 5)) 0 5 refl refl (λ e. omega arith)
+
+-- running all states at the first reply: a diagnosis taken in Offline gives WaitForParam
+pub runs-all : runsAll askedBench diagnosisReply ≡ step askedBench diagnosisReply → ⊥
+unfolding step inRange held createdOf emptyUnit addRefusal addressRefusal lengthRefusal roomRefusal searchFrom turnRefusal dueOf wishOf sweptBy sweepFrom turnPayload turnAnswer controlPayload payloadOf paramHead inside part splice roomFor putIn replyRefusal replyAt hearsOf heardOf stationTook storedLength diagsTaken diagnosisOf tookOf isImage byFlags
+runs-all = apart (λ o. balanceAt (o .world .unit .peripherals) 0 .station .state) (runsAll askedBench diagnosisReply) (step askedBench diagnosisReply) 5 1 refl refl (λ e. omega arith)
+
+-- an invented Offline mask: nobody was visited
+pub invents-mask : inventsMask startedBench (turnAt 0) ≡ step startedBench (turnAt 0) → ⊥
+unfolding step inRange held createdOf emptyUnit addRefusal addressRefusal lengthRefusal roomRefusal searchFrom turnRefusal dueOf wishOf sweptBy sweepFrom turnPayload turnAnswer controlPayload payloadOf paramHead inside part splice roomFor putIn replyRefusal replyAt hearsOf heardOf stationTook storedLength diagsTaken diagnosisOf tookOf isImage byFlags
+invents-mask = apart (λ o. turnOf (o .answer) .offline) (inventsMask startedBench (turnAt 0)) (step startedBench (turnAt 0)) 4 0 refl refl (λ e. omega arith)
+
+-- the fourth breaks demand 3: it asks for data where no parameters were acknowledged
+pub runs-all-breaks : AskedBy runsAll → ⊥
+unfolding step inRange held createdOf emptyUnit addRefusal addressRefusal lengthRefusal roomRefusal searchFrom turnRefusal dueOf wishOf sweptBy sweepFrom turnPayload turnAnswer controlPayload payloadOf paramHead inside part splice roomFor putIn replyRefusal replyAt hearsOf heardOf stationTook storedLength diagsTaken diagnosisOf tookOf isImage byFlags
+runs-all-breaks told =
+    let both = told bench benchPools diagnosisAnswered 3 false 4 2 (zeros 244) 0 tt tt .0 tt in
+    wording (slotLog 0 (runBy runsAll bench benchPools diagnosisAnswered .log)) .1 (both .1)

@@ -1,0 +1,206 @@
+-- The calls that can change a unit or its pools, what each answers, and `step`: what a call does, by the right-hand sides of the contracts and nothing else.
+-- From 01, "The unit and its sizes", "Refusal numbers", "One turn", "One visit and one reply".
+use Prim.Native.Nat.{ℕ}
+use mathlib.Core.Bool.{Bool}
+use mathlib.Core.List.{List, _++_}
+use lib.ListN.{length, take, drop}
+use lib.Dec.{eqb}
+use Rattle.parts.specs.Parts.{pick, putIn}
+use Rattle.fdl.specs.Reply.{carried}
+use Rattle.fdl.specs.declared.telegram.Telegram.{Telegram}
+use Rattle.peripheral.specs.declared.record.Peripheral.{Peripheral}
+use Rattle.peripheral.specs.declared.reply.Reply.{Reply}
+use Rattle.peripheral.specs.Reply.{inputsOf, diagsOf, takes}
+use Rattle.peripheral_set.specs.declared.PeripheralHandle.{PeripheralHandle}
+use Rattle.peripheral_set.specs.Marks.{firstEmpty}
+use Rattle.cycle.specs.declared.refusal.Lent.{Lent}
+use Rattle.cycle.specs.declared.refusal.Lengths.{Lengths}
+use Rattle.cycle.specs.declared.state.OperatingState.{OperatingState}
+use Rattle.cycle.specs.declared.state.Step.{Step}
+use Rattle.cycle.specs.Refusal.{turnRefusal, replyRefusal}
+use Rattle.cycle.specs.State.{entered}
+use Rattle.answers.specs.declared.turn.TurnAnswer.{TurnAnswer}
+use Rattle.answers.specs.declared.reply.ReplyAnswer.{ReplyAnswer}
+use Rattle.answers.specs.Turn.{refusedTurn}
+use Rattle.answers.specs.Reply.{refusedReply}
+use Rattle.master.specs.declared.unit.DpMaster.{DpMaster}
+use Rattle.master.specs.declared.unit.Done.{Done}
+use Rattle.master.specs.declared.add.Addition.{Addition}
+use Rattle.master.specs.Unit.{stateIs}
+use Rattle.master.specs.Add.{userOf, configOf, lengthsOf, setupAfter, cleared, unitAdded, refusalOf}
+use Rattle.master.specs.Turn.{Swept, stepAt, sweptBy, unitTurned, turnPayload, turnAnswer}
+use Rattle.master.specs.Reply.{openBalance, replyAt, replyAnswer, unitReplied}
+use Rattle.master.specs.Handle.{resetDone, wishDone}
+use Rattle.access.specs.Lookup.{foundIn, pooledRefusal, writeRefusal}
+
+-- ---- the unit and its pools
+
+-- the four arrays of the caller, of any length and with any contents
+pub record Pools : Type 0 where
+  pub setup : List ℕ
+  pub inputs : List ℕ
+  pub outputs : List ℕ
+  pub diags : List ℕ
+
+pub record World : Type 0 where
+  pub unit : DpMaster
+  pub pools : Pools
+
+-- a call is lent the first so many bytes of an array
+abbrev pub lend : ℕ → List ℕ → List ℕ
+lend n pool = take n pool
+
+-- the array afterwards: what the call left in that part, and the rest as it was
+abbrev pub back : ℕ → List ℕ → List ℕ → List ℕ
+back n out pool = out ++ drop n pool
+
+-- ---- calls and answers
+
+pub data Call : Type 0 where
+  -- what is added, user parameters, configuration, lent lengths
+  add : Addition → List ℕ → List ℕ → Lent → Call
+  -- `enter_state`
+  enter : OperatingState → Call
+  -- time, `high_prio_only`, lent lengths of the set-up and output pools, the payload buffer
+  turn : ℕ → Bool → ℕ → ℕ → List ℕ → Call
+  -- address, telegram, payload, lent lengths of the input and diagnosis pools
+  reply : ℕ → Telegram → List ℕ → ℕ → ℕ → Call
+  -- `reset_address`
+  reset : PeripheralHandle → ℕ → Call
+  -- `request_diagnostics`
+  wish : PeripheralHandle → Call
+  -- `write_outputs`, with the lent length of the output pool
+  write : PeripheralHandle → List ℕ → ℕ → Call
+  -- `pi_q_mut`, and the bytes that the caller then put into the part: any bytes, inside that output image
+  hand : PeripheralHandle → List ℕ → ℕ → Call
+
+pub data Answer : Type 0 where
+  number : ℕ → Answer
+  added : ℕ → PeripheralHandle → Answer
+  -- with the payload buffer afterwards
+  turned : TurnAnswer → List ℕ → Answer
+  replied : ReplyAnswer → Answer
+
+abbrev pub refusal : Answer → ℕ
+refusal (number n) = n
+refusal (added n h) = n
+refusal (turned a buf) = a .refusal
+refusal (replied a) = a .refusal
+
+abbrev pub accepted : Answer → Bool
+accepted a = eqb (refusal a) 0
+
+pub record Outcome : Type 0 where
+  pub world : World
+  pub answer : Answer
+
+-- ---- what each call does; ok: it is not refused, n is its number
+
+abbrev pub addStep : Bool → ℕ → Lengths → Addition → List ℕ → List ℕ → Lent → World → Outcome
+addStep ok n l a user config lent w =
+    record {
+      world =
+          record {
+            unit = pick ok (unitAdded (w .unit) a l) (w .unit);
+            pools =
+                record {
+                  setup = back (lent .setup) (pick ok (setupAfter (w .unit .used .setup) user config (lend (lent .setup) (w .pools .setup))) (lend (lent .setup) (w .pools .setup))) (w .pools .setup);
+                  inputs = back (lent .inputs) (pick ok (cleared (w .unit .used .inputs) (l .inputs) (lend (lent .inputs) (w .pools .inputs))) (lend (lent .inputs) (w .pools .inputs))) (w .pools .inputs);
+                  outputs = back (lent .outputs) (pick ok (cleared (w .unit .used .outputs) (l .outputs) (lend (lent .outputs) (w .pools .outputs))) (lend (lent .outputs) (w .pools .outputs))) (w .pools .outputs);
+                  diags = back (lent .diags) (pick ok (cleared (w .unit .used .diags) (l .room) (lend (lent .diags) (w .pools .diags))) (lend (lent .diags) (w .pools .diags))) (w .pools .diags);
+                };
+          };
+      answer = added n (pick ok (record { slot = firstEmpty (w .unit .occupied); address = a .address }) (record { slot = 255; address = 255 }));
+    }
+
+abbrev pub unitIs : DpMaster → World → World
+unitIs m w = record { unit = m; pools = w .pools }
+
+abbrev pub turnStep : Bool → ℕ → Step → Swept → List ℕ → ℕ → List ℕ → World → Outcome
+turnStep ok n step s payload time buf w =
+    record {
+      world = unitIs (pick ok (unitTurned step s time (w .unit)) (w .unit)) w;
+      answer = turned (pick ok (turnAnswer step s (w .unit) payload buf) (refusedTurn n)) (pick ok (putIn 0 (length payload) payload buf) buf);
+    }
+
+abbrev pub replyStep : Bool → ℕ → Reply → Telegram → List ℕ → ℕ → ℕ → World → Outcome
+replyStep ok n is t payload ni nd w =
+    record {
+      world =
+          record {
+            unit = pick ok (unitReplied (w .unit) is) (w .unit);
+            pools =
+                record {
+                  setup = w .pools .setup;
+                  inputs = back ni (pick ok (inputsOf (is .event) (carried t payload) (openBalance (w .unit)) (lend ni (w .pools .inputs))) (lend ni (w .pools .inputs))) (w .pools .inputs);
+                  outputs = w .pools .outputs;
+                  diags = back nd (pick ok (diagsOf (takes t (openBalance (w .unit)) (length payload)) (openBalance (w .unit)) payload (lend nd (w .pools .diags))) (lend nd (w .pools .diags))) (w .pools .diags);
+                };
+          };
+      answer = replied (pick ok (replyAnswer (w .unit) is) (refusedReply n));
+    }
+
+-- a call that answers a number and leaves the pools
+abbrev pub doneStep : Done → World → Outcome
+doneStep d w = record { world = unitIs (d .master) w; answer = number (d .refusal) }
+
+-- bytes put into the output image of p
+abbrev pub writeStep : Bool → ℕ → Peripheral → List ℕ → ℕ → World → Outcome
+writeStep ok n p bytes nq w =
+    record {
+      world =
+          record {
+            unit = w .unit;
+            pools =
+                record {
+                  setup = w .pools .setup;
+                  inputs = w .pools .inputs;
+                  outputs = back nq (pick ok (putIn (p .ranges .outputs) (p .ranges .«output_len») bytes (lend nq (w .pools .outputs))) (lend nq (w .pools .outputs))) (w .pools .outputs);
+                  diags = w .pools .diags;
+                };
+          };
+      answer = number n;
+    }
+
+-- ---- the refusals, over what is lent
+
+abbrev pub addNumber : Addition → List ℕ → List ℕ → Lent → World → ℕ
+addNumber a user config lent w =
+    refusalOf (w .unit) a (lengthsOf a user config) (lend (lent .setup) (w .pools .setup)) (lend (lent .inputs) (w .pools .inputs)) (lend (lent .outputs) (w .pools .outputs))
+    (lend (lent .diags) (w .pools .diags))
+
+abbrev pub turnNumber : ℕ → ℕ → ℕ → List ℕ → World → ℕ
+turnNumber time ns nq buf w =
+    turnRefusal (w .unit .parameters) (w .unit .state) time (length (lend ns (w .pools .setup))) (length (lend nq (w .pools .outputs))) (length buf)
+
+abbrev pub replyNumber : ℕ → Telegram → List ℕ → ℕ → ℕ → World → ℕ
+replyNumber address t payload ni nd w =
+    replyRefusal (w .unit .parameters) (w .unit .state) (openBalance (w .unit) .station .address) address t (length payload) (length (lend ni (w .pools .inputs)))
+    (length (lend nd (w .pools .diags)))
+
+abbrev pub writeNumber : PeripheralHandle → List ℕ → ℕ → World → ℕ
+writeNumber h bytes nq w = writeRefusal (w .unit) h bytes (lend nq (w .pools .outputs))
+
+abbrev pub handNumber : PeripheralHandle → ℕ → World → ℕ
+handNumber h nq w = pooledRefusal (length (lend nq (w .pools .outputs))) (w .unit .parameters .«output_pool») h (w .unit .occupied)
+
+-- ---- one call
+
+abbrev pub turnPayloadAt : ℕ → Bool → ℕ → ℕ → World → List ℕ
+turnPayloadAt time high ns nq w =
+    turnPayload (stepAt time high (w .unit)) (sweptBy (stepAt time high (w .unit)) (w .unit)) (w .unit) (lend ns (w .pools .setup)) (lend nq (w .pools .outputs))
+
+unfoldable pub step : World → Call → Outcome
+step w (add a user config lent) =
+    addStep (eqb (addNumber a user config lent w) 0) (addNumber a user config lent w) (lengthsOf a user config) a (userOf a user) (configOf a config) lent w
+step w (enter o) = record { world = unitIs (stateIs (entered o (w .unit .state)) (w .unit)) w; answer = number 0 }
+step w (turn time high ns nq buf) =
+    turnStep (eqb (turnNumber time ns nq buf w) 0) (turnNumber time ns nq buf w) (stepAt time high (w .unit)) (sweptBy (stepAt time high (w .unit)) (w .unit))
+    (turnPayloadAt time high ns nq w) time buf w
+step w (reply address t payload ni nd) =
+    replyStep (eqb (replyNumber address t payload ni nd w) 0) (replyNumber address t payload ni nd w)
+    (replyAt t (w .unit) payload (lend ni (w .pools .inputs)) (lend nd (w .pools .diags))) t payload ni nd w
+step w (reset h address) = doneStep (resetDone (w .unit) h address) w
+step w (wish h) = doneStep (wishDone (w .unit) h) w
+step w (write h bytes nq) = writeStep (eqb (writeNumber h bytes nq w) 0) (writeNumber h bytes nq w) (foundIn (w .unit) h) bytes nq w
+step w (hand h bytes nq) = writeStep (eqb (handNumber h nq w) 0) (handNumber h nq w) (foundIn (w .unit) h) bytes nq w

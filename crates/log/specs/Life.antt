@@ -1,0 +1,371 @@
+-- The life of one balance: a bench, its calls, and the numbers that its answers have. It shows that what is promised happens, and each line of the table is held to the definitions.
+-- From 01, "One turn", "One visit and one reply" and "Refusal numbers".
+use Prim.Native.Nat.{ℕ}
+use mathlib.Core.Bool.{Bool, true, false}
+use mathlib.Core.List.{List, [], _∷_, _++_}
+use lib.ListN.{take}
+use Rattle.parts.specs.Parts.{pick, zeros}
+use Rattle.fdl.specs.Bits.{bitNumber, requestNumber}
+use Rattle.fdl.specs.Sap.{sapNumber}
+use Rattle.fdl.specs.declared.consts.Sap.the-variants.{Absent, At}
+use Rattle.fdl.specs.declared.parameters.Parameters.{Parameters}
+use Rattle.fdl.specs.declared.telegram.DataTelegramHeader.{DataTelegramHeader}
+use Rattle.fdl.specs.declared.telegram.Telegram.{Telegram}
+use Rattle.fdl.specs.declared.telegram.Telegram.the-variants.{ShortConfirmation, Data}
+use Rattle.telegrams.specs.Request.{kindNumber}
+use Rattle.station.specs.State.{eventNumber}
+use Rattle.peripheral_set.specs.declared.PeripheralHandle.{PeripheralHandle}
+use Rattle.cycle.specs.declared.state.OperatingState.the-variants.{Stop, Clear, Operate}
+use Rattle.answers.specs.declared.turn.Transmission.{Transmission}
+use Rattle.answers.specs.declared.turn.Transmission.the-variants.{Nothing, Control, Request}
+use Rattle.log.specs.Calls.{Pools, World, Call, add, enter, turn, reply, reset, wish, write, hand, Answer, number, added, turned, replied, step}
+use Rattle.log.specs.Run.{run}
+
+-- ---- the bench
+
+-- slot time 200, limit 1, address 2; pools of 4, 2, 2 and 8 bytes
+abbrev pub bench : Parameters
+bench =
+    record {
+      «slot_time» = 200;
+      «setup_pool» = 4;
+      «input_pool» = 2;
+      «output_pool» = 2;
+      «diag_pool» = 8;
+      address = 2;
+      «max_retry_limit» = 1;
+      watchdog = false;
+      «watchdog_first» = 0;
+      «watchdog_second» = 0;
+      «min_tsdr_bits» = 11;
+    }
+
+abbrev pub benchPools : Pools
+benchPools = record { setup = zeros 4; inputs = zeros 2; outputs = zeros 2; diags = zeros 8 }
+
+-- a balance at address 7 with three bytes of user parameters, one of configuration, images of 2 bytes, and so many bytes of the set-up pool lent
+abbrev pub addWith : ℕ → Call
+addWith lent =
+    add
+    (record {
+      address = 7;
+      options =
+          record {
+            «ident_number» = 0x1234;
+            «max_tsdr» = 0;
+            groups = 0;
+            «sync_mode» = false;
+            «freeze_mode» = false;
+            «fail_safe» = false;
+            «has_user_parameters» = true;
+            «user_parameters» = 0;
+            «has_config» = true;
+            config = 0;
+          };
+      «input_len» = 2;
+      «output_len» = 2;
+      room = 8;
+    })
+    (0 ∷ 1 ∷ 2 ∷ []) (0x31 ∷ []) (record { setup = lent; inputs = 2; outputs = 2; diags = 8 })
+
+-- a turn at that time
+abbrev pub turnAt : ℕ → Call
+turnAt time = turn time false 4 2 (zeros 244)
+
+-- its reply to a diagnosis request: 00 0C 00 02 12 34
+abbrev pub diagnosisReply : Call
+diagnosisReply = reply 7 (Data (At 62) (At 60) 0) (0 ∷ 0x0C ∷ 0 ∷ 2 ∷ 0x12 ∷ 0x34 ∷ []) 2 8
+
+-- one balance, in Operate; newest first
+abbrev pub started : List Call
+started = enter Operate ∷ addWith 4 ∷ []
+
+-- then the global control, and a diagnosis request
+abbrev pub diagnosisAsked : List Call
+diagnosisAsked = turnAt 1 ∷ turnAt 0 ∷ started
+
+-- then its reply, and the turn that takes the place back
+abbrev pub diagnosisAnswered : List Call
+diagnosisAnswered = turnAt 2 ∷ diagnosisReply ∷ diagnosisAsked
+
+-- a whole life: diagnosis, parameters, configuration, a clean diagnosis; each answered, and the place taken back
+abbrev pub acknowledgement : Call
+acknowledgement = reply 7 ShortConfirmation [] 2 8
+
+abbrev pub configured : List Call
+configured =
+    turnAt 8 ∷ diagnosisReply ∷ turnAt 7 ∷ turnAt 6 ∷ acknowledgement ∷ turnAt 5 ∷ turnAt 4 ∷ acknowledgement ∷ turnAt 3 ∷ diagnosisAnswered
+
+-- then data is asked for, and 11 22 comes
+abbrev pub exchanged : List Call
+exchanged = reply 7 (Data Absent Absent 8) (11 ∷ 22 ∷ []) 2 8 ∷ turnAt 9 ∷ configured
+
+-- the unit and the pools then
+abbrev pub startedBench : World
+startedBench = run bench benchPools started .world
+
+abbrev pub askedBench : World
+askedBench = run bench benchPools diagnosisAsked .world
+
+-- ---- the numbers of an answer
+
+abbrev pub asNumber : Bool → ℕ
+asNumber b = pick b 1 0
+
+abbrev pub headerNumbers : DataTelegramHeader → List ℕ
+headerNumbers h = h .da ∷ h .sa ∷ sapNumber (h .dsap) ∷ sapNumber (h .ssap) ∷ bitNumber (h .fcb) ∷ requestNumber (h .req) ∷ []
+
+-- nothing; the global control's header; slot, kind and header of a request
+abbrev pub sentNumbers : Transmission → List ℕ
+sentNumbers Nothing = []
+sentNumbers (Control h) = headerNumbers h
+sentNumbers (Request slot k h) = slot ∷ kindNumber k ∷ headerNumbers h
+
+-- a number; with the handle of an add; of a turn also cycle-completed, mask, event and its slot, what was sent and its payload; of a reply cycle-completed, event, slot
+abbrev pub numbers : Answer → List ℕ
+numbers (number n) = n ∷ []
+numbers (added n h) = n ∷ h .slot ∷ h .address ∷ []
+numbers (turned a buf) =
+    a .refusal ∷ asNumber (a .«cycle_completed») ∷ a .offline ∷ eventNumber (a .event) ∷ a .handle .slot ∷ (sentNumbers (a .transmission) ++ take (a .len) buf)
+numbers (replied a) = a .refusal ∷ asNumber (a .«cycle_completed») ∷ eventNumber (a .event) ∷ a .handle .slot ∷ []
+
+-- the answers to calls, oldest first, and the unit and pools after them
+abbrev pub answersTo : World → List Call → List (List ℕ)
+answersTo w [] = []
+answersTo w (c ∷ cs) = numbers (step w c .answer) ∷ answersTo (step w c .world) cs
+
+abbrev pub afterAll : World → List Call → World
+afterAll w [] = w
+afterAll w (c ∷ cs) = afterAll (step w c .world) cs
+
+-- ---- one life in calls, oldest first
+
+abbrev pub handleTo : ℕ → PeripheralHandle
+handleTo slot = record { slot = slot; address = 7 }
+
+abbrev pub replyOf : Telegram → List ℕ → Call
+replyOf t payload = reply 7 t payload 2 8
+
+-- with an extended part of two bytes
+abbrev pub extendedReply : Call
+extendedReply = replyOf (Data (At 62) (At 60) 0) (0x08 ∷ 0x0C ∷ 0 ∷ 2 ∷ 0x12 ∷ 0x34 ∷ 0xAA ∷ 0xBB ∷ [])
+
+-- one that comes where parameters are to be acknowledged: it changes nothing
+abbrev pub lateReply : Call
+lateReply = replyOf (Data (At 62) (At 60) 0) (0x08 ∷ 0x0C ∷ 0 ∷ 2 ∷ 0x12 ∷ 0x34 ∷ 0xCC ∷ [])
+
+abbrev pub firstHalf : List Call
+firstHalf =
+    enter Operate
+    ∷ addWith 3
+    ∷ addWith 4
+    ∷ addWith 4
+    ∷ write (handleTo 0) (5 ∷ 6 ∷ []) 2
+    ∷ write (handleTo 0) (5 ∷ []) 2
+    ∷ hand (handleTo 0) (9 ∷ []) 2
+    ∷ hand (handleTo 1) (9 ∷ []) 2
+    ∷ hand (handleTo 0) (9 ∷ []) 1
+    ∷ turnAt 0
+    ∷ turnAt 1
+    ∷ reply 8 ShortConfirmation [] 2 8
+    ∷ replyOf (Data Absent Absent 5) []
+    ∷ extendedReply
+    ∷ turnAt 2
+    ∷ turnAt 1
+    ∷ turnAt 3
+    ∷ lateReply
+    ∷ turnAt 3
+    ∷ turnAt 3
+    ∷ acknowledgement
+    ∷ turnAt 4
+    ∷ turnAt 5
+    ∷ acknowledgement
+    ∷ turnAt 6
+    ∷ turnAt 7
+    ∷ diagnosisReply
+    ∷ []
+
+abbrev pub secondHalf : List Call
+secondHalf =
+    turnAt 8
+    ∷ turnAt 9
+    ∷ replyOf (Data Absent Absent 10) (11 ∷ 22 ∷ [])
+    ∷ turnAt 10
+    ∷ turnAt 11
+    ∷ diagnosisReply
+    ∷ turnAt 11
+    ∷ turnAt 11
+    ∷ replyOf (Data Absent Absent 9) (33 ∷ 44 ∷ [])
+    ∷ wish (handleTo 0)
+    ∷ wish (handleTo 32)
+    ∷ turnAt 12
+    ∷ turnAt 13
+    ∷ turnAt 14
+    ∷ turnAt 15
+    ∷ reset (handleTo 0) 2
+    ∷ reset (handleTo 5) 2
+    ∷ reset (handleTo 0) 9
+    ∷ acknowledgement
+    ∷ enter Clear
+    ∷ turnAt 16
+    ∷ enter Stop
+    ∷ turnAt 17
+    ∷ []
+
+-- ---- and its answers
+
+abbrev pub firstAnswers : List (List ℕ)
+firstAnswers =
+    (0 ∷ [])
+    ∷ (2 ∷ 255 ∷ 255 ∷ [])
+    ∷ (0 ∷ 0 ∷ 7 ∷ [])
+    ∷ (8 ∷ 255 ∷ 255 ∷ [])
+    ∷ (0 ∷ [])
+    ∷ (11 ∷ [])
+    ∷ (0 ∷ [])
+    ∷ (4 ∷ [])
+    ∷ (2 ∷ [])
+    ∷ (0 ∷ 0 ∷ 0 ∷ 0 ∷ 255 ∷ 127 ∷ 2 ∷ 58 ∷ 62 ∷ 0 ∷ 4 ∷ 0 ∷ 0 ∷ [])
+    ∷ (0 ∷ 0 ∷ 0 ∷ 0 ∷ 255 ∷ 0 ∷ 1 ∷ 7 ∷ 2 ∷ 60 ∷ 62 ∷ 1 ∷ 12 ∷ [])
+    ∷ (9 ∷ 0 ∷ 0 ∷ 255 ∷ [])
+    ∷ (10 ∷ 0 ∷ 0 ∷ 255 ∷ [])
+    ∷ (0 ∷ 1 ∷ 1 ∷ 0 ∷ [])
+    ∷ (0 ∷ 0 ∷ 0 ∷ 0 ∷ 255 ∷ [])
+    ∷ (3 ∷ 0 ∷ 0 ∷ 0 ∷ 255 ∷ [])
+    ∷ (0 ∷ 0 ∷ 0 ∷ 0 ∷ 255 ∷ 0 ∷ 2 ∷ 7 ∷ 2 ∷ 61 ∷ 62 ∷ 2 ∷ 12 ∷ 0x80 ∷ 0 ∷ 0 ∷ 11 ∷ 0x12 ∷ 0x34 ∷ 0 ∷ 0 ∷ 1 ∷ 2 ∷ [])
+    ∷ (0 ∷ 1 ∷ 0 ∷ 255 ∷ [])
+    ∷ (0 ∷ 0 ∷ 0 ∷ 0 ∷ 255 ∷ [])
+    ∷ (0 ∷ 0 ∷ 0 ∷ 0 ∷ 255 ∷ 0 ∷ 2 ∷ 7 ∷ 2 ∷ 61 ∷ 62 ∷ 2 ∷ 12 ∷ 0x80 ∷ 0 ∷ 0 ∷ 11 ∷ 0x12 ∷ 0x34 ∷ 0 ∷ 0 ∷ 1 ∷ 2 ∷ [])
+    ∷ (0 ∷ 1 ∷ 0 ∷ 255 ∷ [])
+    ∷ (0 ∷ 0 ∷ 0 ∷ 0 ∷ 255 ∷ [])
+    ∷ (0 ∷ 0 ∷ 0 ∷ 0 ∷ 255 ∷ 0 ∷ 3 ∷ 7 ∷ 2 ∷ 62 ∷ 62 ∷ 3 ∷ 12 ∷ 0x31 ∷ [])
+    ∷ (0 ∷ 1 ∷ 0 ∷ 255 ∷ [])
+    ∷ (0 ∷ 0 ∷ 0 ∷ 0 ∷ 255 ∷ [])
+    ∷ (0 ∷ 0 ∷ 0 ∷ 0 ∷ 255 ∷ 0 ∷ 1 ∷ 7 ∷ 2 ∷ 60 ∷ 62 ∷ 2 ∷ 12 ∷ [])
+    ∷ (0 ∷ 1 ∷ 2 ∷ 0 ∷ [])
+    ∷ []
+
+abbrev pub secondAnswers : List (List ℕ)
+secondAnswers =
+    (0 ∷ 0 ∷ 0 ∷ 0 ∷ 255 ∷ [])
+    ∷ (0 ∷ 0 ∷ 0 ∷ 0 ∷ 255 ∷ 0 ∷ 4 ∷ 7 ∷ 2 ∷ 255 ∷ 255 ∷ 3 ∷ 13 ∷ 9 ∷ 6 ∷ [])
+    ∷ (0 ∷ 1 ∷ 5 ∷ 0 ∷ [])
+    ∷ (0 ∷ 0 ∷ 0 ∷ 0 ∷ 255 ∷ [])
+    ∷ (0 ∷ 0 ∷ 0 ∷ 0 ∷ 255 ∷ 0 ∷ 1 ∷ 7 ∷ 2 ∷ 60 ∷ 62 ∷ 2 ∷ 12 ∷ [])
+    ∷ (0 ∷ 1 ∷ 6 ∷ 0 ∷ [])
+    ∷ (0 ∷ 0 ∷ 0 ∷ 0 ∷ 255 ∷ [])
+    ∷ (0 ∷ 0 ∷ 0 ∷ 0 ∷ 255 ∷ 0 ∷ 4 ∷ 7 ∷ 2 ∷ 255 ∷ 255 ∷ 3 ∷ 13 ∷ 9 ∷ 6 ∷ [])
+    ∷ (0 ∷ 1 ∷ 0 ∷ 255 ∷ [])
+    ∷ (0 ∷ [])
+    ∷ (4 ∷ [])
+    ∷ (0 ∷ 0 ∷ 0 ∷ 0 ∷ 255 ∷ [])
+    ∷ (0 ∷ 0 ∷ 0 ∷ 0 ∷ 255 ∷ 0 ∷ 1 ∷ 7 ∷ 2 ∷ 60 ∷ 62 ∷ 2 ∷ 12 ∷ [])
+    ∷ (0 ∷ 0 ∷ 0 ∷ 0 ∷ 255 ∷ 0 ∷ 1 ∷ 7 ∷ 2 ∷ 60 ∷ 62 ∷ 2 ∷ 12 ∷ [])
+    ∷ (0 ∷ 1 ∷ 1 ∷ 7 ∷ 0 ∷ [])
+    ∷ (6 ∷ [])
+    ∷ (4 ∷ [])
+    ∷ (0 ∷ [])
+    ∷ (9 ∷ 0 ∷ 0 ∷ 255 ∷ [])
+    ∷ (0 ∷ [])
+    ∷ (0 ∷ 0 ∷ 0 ∷ 0 ∷ 255 ∷ 127 ∷ 2 ∷ 58 ∷ 62 ∷ 0 ∷ 4 ∷ 2 ∷ 0 ∷ [])
+    ∷ (0 ∷ [])
+    ∷ (0 ∷ 0 ∷ 0 ∷ 0 ∷ 255 ∷ [])
+    ∷ []
+
+-- ---- two balances with no set-up data and no images, over empty pools; oldest first
+
+abbrev pub smallBench : Parameters
+smallBench =
+    record {
+      «slot_time» = 200;
+      «setup_pool» = 0;
+      «input_pool» = 0;
+      «output_pool» = 0;
+      «diag_pool» = 0;
+      address = 2;
+      «max_retry_limit» = 1;
+      watchdog = false;
+      «watchdog_first» = 0;
+      «watchdog_second» = 0;
+      «min_tsdr_bits» = 11;
+    }
+
+abbrev pub noPools : Pools
+noPools = record { setup = []; inputs = []; outputs = []; diags = [] }
+
+abbrev pub addAt : ℕ → Call
+addAt address =
+    add
+    (record {
+      address = address;
+      options =
+          record {
+            «ident_number» = 0;
+            «max_tsdr» = 0;
+            groups = 0;
+            «sync_mode» = false;
+            «freeze_mode» = false;
+            «fail_safe» = false;
+            «has_user_parameters» = false;
+            «user_parameters» = 0;
+            «has_config» = false;
+            config = 0;
+          };
+      «input_len» = 0;
+      «output_len» = 0;
+      room = 0;
+    })
+    [] [] (record { setup = 0; inputs = 0; outputs = 0; diags = 0 })
+
+abbrev pub smallTurn : ℕ → Call
+smallTurn time = turn time false 0 0 (zeros 244)
+
+abbrev pub smallReply : ℕ → Call
+smallReply address = reply address (Data (At 62) (At 60) 0) (0 ∷ 0x0C ∷ 0 ∷ 2 ∷ 0x12 ∷ 0x34 ∷ []) 0 0
+
+abbrev pub twoBalances : List Call
+twoBalances =
+    addAt 7
+    ∷ addAt 8
+    ∷ addAt 2
+    ∷ enter Operate
+    ∷ smallTurn 0
+    ∷ smallTurn 1
+    ∷ smallReply 8
+    ∷ smallReply 7
+    ∷ smallTurn 2
+    ∷ smallReply 8
+    ∷ smallTurn 3
+    ∷ smallTurn 4
+    ∷ reset (handleTo 0) 7
+    ∷ reset (handleTo 1) 8
+    ∷ smallTurn 5
+    ∷ smallTurn 6
+    ∷ smallTurn 7
+    ∷ smallTurn 8
+    ∷ smallTurn 9
+    ∷ []
+
+-- the second is asked after the first has answered, and where the first, Offline and silent, is passed
+abbrev pub twoAnswers : List (List ℕ)
+twoAnswers =
+    (0 ∷ 0 ∷ 7 ∷ [])
+    ∷ (0 ∷ 1 ∷ 8 ∷ [])
+    ∷ (6 ∷ 255 ∷ 255 ∷ [])
+    ∷ (0 ∷ [])
+    ∷ (0 ∷ 0 ∷ 0 ∷ 0 ∷ 255 ∷ 127 ∷ 2 ∷ 58 ∷ 62 ∷ 0 ∷ 4 ∷ 0 ∷ 0 ∷ [])
+    ∷ (0 ∷ 0 ∷ 0 ∷ 0 ∷ 255 ∷ 0 ∷ 1 ∷ 7 ∷ 2 ∷ 60 ∷ 62 ∷ 1 ∷ 12 ∷ [])
+    ∷ (9 ∷ 0 ∷ 0 ∷ 255 ∷ [])
+    ∷ (0 ∷ 0 ∷ 1 ∷ 0 ∷ [])
+    ∷ (0 ∷ 0 ∷ 0 ∷ 0 ∷ 255 ∷ 1 ∷ 1 ∷ 8 ∷ 2 ∷ 60 ∷ 62 ∷ 1 ∷ 12 ∷ [])
+    ∷ (0 ∷ 1 ∷ 1 ∷ 1 ∷ [])
+    ∷ (0 ∷ 0 ∷ 0 ∷ 0 ∷ 255 ∷ [])
+    ∷ (0 ∷ 1 ∷ 0 ∷ 0 ∷ 255 ∷ [])
+    ∷ (0 ∷ [])
+    ∷ (0 ∷ [])
+    ∷ (0 ∷ 0 ∷ 0 ∷ 0 ∷ 255 ∷ 0 ∷ 1 ∷ 7 ∷ 2 ∷ 60 ∷ 62 ∷ 1 ∷ 12 ∷ [])
+    ∷ (0 ∷ 0 ∷ 0 ∷ 0 ∷ 255 ∷ 1 ∷ 1 ∷ 8 ∷ 2 ∷ 60 ∷ 62 ∷ 1 ∷ 12 ∷ [])
+    ∷ (0 ∷ 1 ∷ 0 ∷ 0 ∷ 255 ∷ [])
+    ∷ (0 ∷ 0 ∷ 0 ∷ 0 ∷ 255 ∷ 0 ∷ 1 ∷ 7 ∷ 2 ∷ 60 ∷ 62 ∷ 1 ∷ 12 ∷ [])
+    ∷ (0 ∷ 0 ∷ 0 ∷ 0 ∷ 255 ∷ 1 ∷ 1 ∷ 8 ∷ 2 ∷ 60 ∷ 62 ∷ 1 ∷ 12 ∷ [])
+    ∷ []

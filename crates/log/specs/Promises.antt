@@ -1,0 +1,91 @@
+-- The promises of demand 3, and what the proof gives beside them: over every creation, refused or not, every contents of the four pools, every list of calls,
+-- refused ones included. The definitions of the words stand in Words.antt, those of calls and runs in Calls.antt and Run.antt; the proofs are in proofs/.
+-- From 01, "Words of the log" and "What the contracts have to say".
+use mathlib.Core.Path.{_≡_}
+use mathlib.Core.Logic.{_↔_}
+use Prim.Native.Nat.{ℕ}
+use mathlib.Core.Bool.{Bool, false, not}
+use mathlib.Core.List.{List, []}
+use lib.ListN.{length}
+use lib.Dec.{T, eqb}
+use Rattle.parts.specs.Parts.{pick}
+use Rattle.fdl.specs.declared.parameters.Parameters.{Parameters}
+use Rattle.peripheral.specs.Record.{inputImage}
+use Rattle.peripheral_set.specs.declared.PeripheralHandle.{PeripheralHandle}
+use Rattle.cycle.specs.State.{operatingOf}
+use Rattle.answers.specs.Turn.{refusedTurn}
+use Rattle.master.specs.declared.unit.DpMaster.{DpMaster}
+use Rattle.access.specs.Lookup.{foundIn}
+use Rattle.valid.specs.Valid.{Valid, Apart, balance}
+use Rattle.log.specs.Calls.{Call, turn, turned, Pools, World, Outcome, accepted, refusal, lend, step}
+use Rattle.log.specs.Words.{turnOf, reportedOffline, slotLog, Frame, frameOf, occupiedIn, reached, imageOf, Due, Ready, asksData}
+use Rattle.log.specs.Run.{runBy, run, acceptedOf}
+
+-- ---- what is read of a unit
+
+-- the input image of a slot: its range of the part of the input pool that a call has to be lent
+abbrev pub imageIn : World → ℕ → List ℕ
+imageIn w s = inputImage (balance (w .unit) s) (lend (w .unit .parameters .«input_pool») (w .pools .inputs))
+
+-- its operating state, its occupied slots and its place
+abbrev pub frameIn : DpMaster → Frame
+frameIn m =
+    record {
+      mode = operatingOf (m .state .operating);
+      marks = m .occupied;
+      place = record { slot = m .state .slot; past = m .state .completed };
+    }
+
+-- ---- IMAGE: of every slot that the log says is occupied, the input image is the payload of the newest reply reported DataExchanged since the slot was added,
+-- else zeros of its length
+
+abbrev pub ImageTold : Type 0
+ImageTold = (u : Parameters) (pools : Pools) (cs : List Call) (s : ℕ) → T (occupiedIn (run u pools cs .log) s)
+    → imageIn (run u pools cs .world) s ≡ imageOf (slotLog s (run u pools cs .log))
+
+-- and it is what `pi_i` hands out: r is any result that its contract allows, where the pool that is lent has its length
+abbrev pub ReadTold : Type 0
+ReadTold = (u : Parameters) (pools : Pools) (cs : List Call) (h : PeripheralHandle) (n : ℕ) (r : List ℕ) → let w = run u pools cs .world in
+    let lent = lend n (w .pools .inputs) in
+    T (occupiedIn (run u pools cs .log) (h .slot)) → length lent ≡ w .unit .parameters .«input_pool»
+    → r ≡ pick (eqb (length lent) (w .unit .parameters .«input_pool»)) (inputImage (foundIn (w .unit) h) lent) []
+    → r ≡ imageOf (slotLog (h .slot) (run u pools cs .log))
+
+-- ---- ASKED: at a turn that reaches it without reporting it Offline, a balance is asked for data exactly when no diagnosis is due and, since its last fall,
+-- the log holds acknowledged parameters, later acknowledged configuration, later a clean diagnosis with no "SAP not enabled" after it
+
+-- said of what calls do by f, so that it can be said of wrong units too; a is what the turn answers
+abbrev pub AskedBy : (World → Call → Outcome) → Type 0
+AskedBy f = (u : Parameters) (pools : Pools) (cs : List Call) (time : ℕ) (high : Bool) (ns nq : ℕ) (buf : List ℕ) (s : ℕ)
+    → let log = runBy f u pools cs .log in
+    let a = turnOf (f (runBy f u pools cs .world) (turn time high ns nq buf) .answer) in
+    T (reached log a s) → T (not (reportedOffline s a)) → T (asksData s (a .transmission)) ↔ ((Due (slotLog s log) → ⊥) × Ready (slotLog s log))
+
+abbrev pub AskedTold : Type 0
+AskedTold = AskedBy step
+
+-- ---- beside them
+
+-- operating state, occupied slots and place are what the log says
+abbrev pub FrameTold : Type 0
+FrameTold = (u : Parameters) (pools : Pools) (cs : List Call) → frameIn (run u pools cs .world .unit) ≡ frameOf (run u pools cs .log)
+
+-- a refused call changes neither the unit nor a byte of a pool, nor, if it is a turn, of the payload buffer
+abbrev pub RefusedSame : Type 0
+RefusedSame = (w : World) (c : Call) → accepted (step w c .answer) ≡ false → step w c .world ≡ w
+
+abbrev pub BufferSame : Type 0
+BufferSame = (w : World) (time : ℕ) (high : Bool) (ns nq : ℕ) (buf : List ℕ) → let x = step w (turn time high ns nq buf) .answer in accepted x ≡ false → x ≡ turned (refusedTurn (refusal x)) buf
+
+-- so refused calls leave no trace: a run with them left out gives the same unit, pools and log
+abbrev pub NoTrace : Type 0
+NoTrace = (u : Parameters) (pools : Pools) (cs : List Call) → run u pools (acceptedOf u pools cs) ≡ run u pools cs
+
+-- `Valid` holds after any calls
+abbrev pub AlwaysValid : Type 0
+AlwaysValid = (u : Parameters) (pools : Pools) (cs : List Call) → Valid (run u pools cs .world .unit)
+
+-- the ranges of two slots that the log says are occupied never overlap, in none of the four pools
+abbrev pub NeverOverlap : Type 0
+NeverOverlap = (u : Parameters) (pools : Pools) (cs : List Call) (s t : ℕ) → T (occupiedIn (run u pools cs .log) s) → T (occupiedIn (run u pools cs .log) t)
+    → (s ≡ t → ⊥) → Apart (balance (run u pools cs .world .unit) s) (balance (run u pools cs .world .unit) t)

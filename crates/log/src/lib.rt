@@ -1,0 +1,1 @@
+// The log tells all: no code, only definitions and proofs.
