@@ -5,7 +5,7 @@ use Prim.Native.Nat.{ℕ}
 use mathlib.Core.List.{List, []}
 use lib.ListN.{length}
 use lib.Dec.{eqb}
-use denote.Ref.{now}
+use denote.Ref.{RefT, now}
 use Rattle.parts.specs.Parts.{pick}
 use Rattle.telegrams.specs.declared.diagnosis.DiagnosticsInfo.{DiagnosticsInfo}
 use Rattle.peripheral.specs.Record.{lastExtended}
@@ -26,6 +26,10 @@ lastPart m h pool = pick (eqb (length pool) (m .parameters .«diag_pool»)) (las
 abbrev pub numbersOf : PeripheralDiagnostics → DiagnosticsInfo
 numbersOf r = record { flags = r .flags; «ident_number» = r .«ident_number»; «master_address» = r .«master_address»; held = r .held }
 
+-- the part that a record refers to
+abbrev pub partOf : PeripheralDiagnostics → RefT (List ℕ)
+partOf r = r .«extended_diagnostics»
+
 pub record Says (m : DpMaster) (h : PeripheralHandle) (pool : List ℕ) (r : PeripheralDiagnostics) : Type 0 where
   pub numbers : numbersOf r ≡ lastNumbers m h pool
-  pub part : now (r .«extended_diagnostics») ≡ lastPart m h pool
+  pub part : now (partOf r) ≡ lastPart m h pool

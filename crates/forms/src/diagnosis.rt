@@ -2,7 +2,7 @@
 ghost use mathlib.Core.Path.{_≡_};
 ghost use lib.ListN.{length};
 ghost use Rattle.access.specs.Lookup.{pooledRefusal};
-ghost use Rattle.forms.specs.Diagnosis.{Says};
+ghost use Rattle.forms.specs.Diagnosis.{partOf, Says};
 use master::unit::DpMaster;
 use peripheral_set::PeripheralHandle;
 
@@ -44,7 +44,7 @@ pub fn last_diagnostics<'a>(
 
 // The part, read back out of the record.
 pub fn extended<'a>(d: PeripheralDiagnostics<'a>) -> &'a [u8]
-    ensures { λ s. ⌜ s ≡ d .entry .«extended_diagnostics» ⌝ }
+    ensures { λ s. ⌜ s ≡ partOf (d .entry) ⌝ }
 {
     d.extended_diagnostics
 }

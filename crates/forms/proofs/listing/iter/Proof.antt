@@ -58,7 +58,7 @@ use Rattle.master.specs.declared.unit.DpMaster.{DpMaster}
 use Rattle.access.specs.Lookup.{entryAt}
 use Rattle.forms.specs.declared.listing.Listed.{Listed}
 use Rattle.forms.specs.Listing.{listedIn, shown, overlay}
-use Rattle.forms.proofs.Rows.{shown-fits, shown-at, fills, overlay-length, take-fits, take-all}
+use Rattle.forms.proofs.Filling.{shown-fits, shown-at, fills, overlay-length, take-fits, take-all}
 use Rattle.peripheral_set.proofs.Entry as T
 use Rattle.peripheral_set.proofs.Entry.Laws as T′
 use Rattle.master.proofs.unit.DpMaster as S

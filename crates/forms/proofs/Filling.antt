@@ -34,13 +34,11 @@ module _ (m : DpMaster) where
   module _ (room : ℕ) where
     -- what is written is no more than the slots, and fits the list
     pub shown-fits : (length (shown m room) ≤ slots) × (length (shown m room) ≤ room)
-    shown-fits = by-test (leb slots room) yes-fits no-fits
+    shown-fits = by-case (leb slots room) refl
       where
-        yes-fits : leb slots room ≡ true → (length (shown m room) ≤ slots) × (length (shown m room) ≤ room)
-        yes-fits e = rw e (omega (arith, as-many, few slots (m .occupied) 0), omega (arith, as-many, few slots (m .occupied) 0, leb-true slots room e))
-
-        no-fits : leb slots room ≡ false → (length (shown m room) ≤ slots) × (length (shown m room) ≤ room)
-        no-fits e = rw e (omega arith, omega arith)
+        by-case : (b : Bool) → leb slots room ≡ b → (length (pick b (entries m) []) ≤ slots) × (length (pick b (entries m) []) ≤ room)
+        by-case true e = (omega (arith, as-many, few slots (m .occupied) 0), omega (arith, as-many, few slots (m .occupied) 0, leb-true slots room e))
+        by-case false e = (omega arith, omega arith)
 
     -- the i-th of them is the entry of the i-th occupied slot
     pub shown-at : (i : ℕ) → i < length (shown m room) → entryAt m (getD (listed (m .occupied)) i slots) ≡ getD (shown m room) i (entryAt m slots)
