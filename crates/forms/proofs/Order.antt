@@ -1,22 +1,25 @@
--- What "the occupied slots in rising order" comes to: every entry is of an occupied slot, each occupied slot has one, and their slots rise.
+-- What "the occupied slots in rising order" comes to: every entry is of an occupied slot, each occupied slot has one, and their slots rise; and how a lent list stands afterwards.
 -- The idea: among n slots from i on, the listing has slots of that range alone, and the first comes before the rest.
 use mathlib.Core.Path.{_≡_, refl, sym, ap, _∙_}
 use mathlib.Core.Bool.{Bool, true, false, _&&_, true≢false}
-use mathlib.Core.List.{List, [], _∷_}
+use mathlib.Core.List.{List, [], _∷_, _++_}
 use mathlib.Core.Logic.{by-cases}
 use Prim.Native.Nat.{ℕ, zero, suc, _+_, _≤_, _<_}
 use native.Mathlib.Decide.{decLe}
 use native.Mathlib.Nat.{not-suc-le-zero, le-of-suc-le-suc}
 use native.Mathlib.Omega.{arith}
 use lib.Dec.{ltb}
-use lib.ListN.{length, getD, List·getD-map}
-use borrow.Author.Tests.{lt-ltb, ltb-true}
+use lib.ListN.{length, getD, take, drop, List·getD-map}
+use borrow.Author.Tests.{lt-ltb, ltb-true, lt-leb, le-leb}
 use Rattle.parts.specs.Parts.{pick}
 use Rattle.parts.proofs.Laws.{and-left, and-right}
+use Rattle.peripheral_set.specs.declared.Entry.{Entry}
 use Rattle.peripheral_set.specs.Marks.{slots, isOccupied, listedFrom, listed}
+use Rattle.cycle.specs.Refusal.{unless}
 use Rattle.master.specs.declared.unit.DpMaster.{DpMaster}
 use Rattle.access.specs.Lookup.{entryAt}
-use Rattle.forms.specs.Listing.{entries}
+use Rattle.forms.specs.declared.listing.Listed.{Listed}
+use Rattle.forms.specs.Listing.{entries, overlay, Iterated}
 use Rattle.forms.proofs.Filling.{as-many}
 
 module _ (marks : List Bool) (d : ℕ) where
@@ -102,3 +105,30 @@ module _ (m : DpMaster) where
   complete x o =
       let f = found (m .occupied) slots slots 0 x (omega arith, ltb-true x slots (and-left (ltb x slots) (getD (m .occupied) x false) o), and-right (ltb x slots) (getD (m .occupied) x false) o) in
       (f .0, (omega (arith, as-many m, f .1 .0), List·getD-map (entryAt m) (listed (m .occupied)) (f .0) slots ∙ ap (entryAt m) (f .1 .1)))
+
+-- ---- of the lent list
+
+front : (new rest : List Entry) → (take (length new) (new ++ rest) ≡ new) × (drop (length new) (new ++ rest) ≡ rest)
+front [] rest = (refl, refl)
+front (x ∷ new) rest = (ap (λ (l : List Entry). x ∷ l) (front new rest .0), front new rest .1)
+
+module _ (m : DpMaster) (before after : List Entry) (r : Listed) (i : Iterated m before after r) where
+  -- the answer and the list where the test of the length comes out as b
+  abbrev answered : Bool → Listed
+  answered b = record { refusal = unless b 2 0; count = length (pick b (entries m) []) }
+
+  abbrev left : Bool → List Entry
+  left b = overlay (pick b (entries m) []) before
+
+  -- a list that is too short: 2, no entry, nothing touched
+  pub list-refused : length before < slots → (r ≡ (record { refusal = 2; count = 0 })) × (after ≡ before)
+  list-refused l = let e = lt-leb slots (length before) l in (i .answer ∙ ap answered e, i .list ∙ ap left e)
+
+  -- else all entries stand in front, and the rest is as it was
+  pub list-filled : slots ≤ length before → (r ≡ (record { refusal = 0; count = length (entries m) })) × (take (r .count) after ≡ entries m) × (drop (r .count) after ≡ drop (r .count) before)
+  list-filled l =
+      let e = le-leb slots (length before) l in
+      let a : r ≡ (record { refusal = 0; count = length (entries m) }) = i .answer ∙ ap answered e in
+      let n : r .count ≡ length (entries m) = ap (λ (x : Listed). x .count) a in
+      let o : after ≡ overlay (entries m) before = i .list ∙ ap left e in
+      (a, rw (n, o) (front (entries m) (drop (length (entries m)) before) .0), rw (n, o) (front (entries m) (drop (length (entries m)) before) .1))
