@@ -1,6 +1,6 @@
 -- Before a diagnosis is held, and when refused, the numbers of the record are "none" and its part is empty.
 -- The idea: a refused handle reads as a blank record, which holds none, and of a record that holds none no byte is stored.
-use mathlib.Core.Path.{_≡_, refl, sym, _∙_}
+use mathlib.Core.Path.{_≡_, refl}
 use Prim.Native.Nat.{ℕ}
 use mathlib.Core.Bool.{Bool, true, false, true≢false}
 use mathlib.Core.Logic.{_⊎_, inl, inr, ⊎-elim}
@@ -16,8 +16,8 @@ use Rattle.peripheral_set.specs.declared.PeripheralHandle.{PeripheralHandle}
 use Rattle.peripheral_set.specs.Marks.{isOccupied}
 use Rattle.cycle.specs.Refusal.{unless}
 use Rattle.master.specs.declared.unit.DpMaster.{DpMaster}
-use Rattle.access.specs.Lookup.{foundIn, pooledRefusal}
-use Rattle.forms.specs.Diagnosis.{lastNumbers, lastPart}
+use Rattle.access.specs.Lookup.{foundIn}
+use Rattle.forms.specs.Diagnosis.{lastRefusal, lastNumbers, lastPart}
 
 none-of : (at : ℕ) (l : List ℕ) → part at 0 l ≡ []
 unfolding part
@@ -44,9 +44,6 @@ by-which false occupied z = inl refl
 by-which true occupied z = inr (empty-slot occupied z)
 
 module _ (m : DpMaster) (h : PeripheralHandle) (pool : List ℕ) where
-  abbrev number : ℕ
-  number = pooledRefusal (length pool) (m .parameters .«diag_pool») h (m .occupied)
-
   -- an empty slot's balance holds none
   unheld : isOccupied (m .occupied) (h .slot) ≡ false → foundIn m h .station .diag .held ≡ false
   unfolding foundIn
@@ -56,11 +53,11 @@ module _ (m : DpMaster) (h : PeripheralHandle) (pool : List ℕ) where
   pub none-before : foundIn m h .station .diag .held ≡ false → (lastNumbers m h pool ≡ noDiagnosis) × (lastPart m h pool ≡ [])
   none-before e =
       let s = foundIn m h .station in
-      (unread (eqb number 0) (s .diag .held) (s .diag) e, unstored (eqb (length pool) (m .parameters .«diag_pool»)) (s .diag .held) (foundIn m h .ranges .diag) (s .«diag_len») pool e)
+      (unread (eqb (lastRefusal m h pool) 0) (s .diag .held) (s .diag) e, unstored (eqb (length pool) (m .parameters .«diag_pool»)) (s .diag .held) (foundIn m h .ranges .diag) (s .«diag_len») pool e)
 
   -- when refused
-  pub none-refused : (number ≡ 0 → ⊥) → (lastNumbers m h pool ≡ noDiagnosis) × (lastPart m h pool ≡ [])
+  pub none-refused : (lastRefusal m h pool ≡ 0 → ⊥) → (lastNumbers m h pool ≡ noDiagnosis) × (lastPart m h pool ≡ [])
   none-refused z = (
-    rw (ne-eqb number 0 z) refl,
+    rw (ne-eqb (lastRefusal m h pool) 0 z) refl,
     ⊎-elim (λ e. rw e refl) (λ e. none-before (unheld e) .1) (by-which (eqb (length pool) (m .parameters .«diag_pool»)) (isOccupied (m .occupied) (h .slot)) z),
   )

@@ -1,7 +1,7 @@
 -- What "the occupied slots in rising order" comes to: every entry is of an occupied slot, each occupied slot has one, and their slots rise; and how a lent list stands afterwards.
 -- The idea: among n slots from i on, the listing has slots of that range alone, and the first comes before the rest.
 use mathlib.Core.Path.{_≡_, refl, sym, ap, _∙_}
-use mathlib.Core.Bool.{Bool, true, false, _&&_, true≢false}
+use mathlib.Core.Bool.{Bool, true, false, true≢false}
 use mathlib.Core.List.{List, [], _∷_, _++_}
 use mathlib.Core.Logic.{by-cases}
 use Prim.Native.Nat.{ℕ, zero, suc, _+_, _≤_, _<_}

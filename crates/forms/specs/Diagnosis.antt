@@ -14,9 +14,13 @@ use Rattle.master.specs.declared.unit.DpMaster.{DpMaster}
 use Rattle.access.specs.Lookup.{foundIn, pooledRefusal, lastOf}
 use Rattle.forms.specs.declared.diagnosis.PeripheralDiagnostics.{PeripheralDiagnostics}
 
+-- the number: a lent pool of another length, then the handle's
+abbrev pub lastRefusal : DpMaster → PeripheralHandle → List ℕ → ℕ
+lastRefusal m h pool = pooledRefusal (length pool) (m .parameters .«diag_pool») h (m .occupied)
+
 -- the numbers: none before one is held, and when refused
 abbrev pub lastNumbers : DpMaster → PeripheralHandle → List ℕ → DiagnosticsInfo
-lastNumbers m h pool = lastOf (pooledRefusal (length pool) (m .parameters .«diag_pool») h (m .occupied)) (foundIn m h) .value
+lastNumbers m h pool = lastOf (lastRefusal m h pool) (foundIn m h) .value
 
 -- the extended part: empty before one is held, and when refused
 abbrev pub lastPart : DpMaster → PeripheralHandle → List ℕ → List ℕ

@@ -1,8 +1,6 @@
 // The last diagnosis as one record that refers to the extended part in the lent pool.
 ghost use mathlib.Core.Path.{_≡_};
-ghost use lib.ListN.{length};
-ghost use Rattle.access.specs.Lookup.{pooledRefusal};
-ghost use Rattle.forms.specs.Diagnosis.{partOf, Says};
+ghost use Rattle.forms.specs.Diagnosis.{lastRefusal, partOf, Says};
 use master::unit::DpMaster;
 use peripheral_set::PeripheralHandle;
 
@@ -17,7 +15,7 @@ pub struct PeripheralDiagnostics<'a> {
 
 // The number of `last_diagnostics`.
 pub fn last_diagnostics_refusal(m: DpMaster, handle: PeripheralHandle, diags: &[u8]) -> u8
-    ensures { λ r. ⌜ r ≡ pooledRefusal (length (now (diags .entry))) (m .parameters .«diag_pool») handle (m .occupied) ⌝ }
+    ensures { λ r. ⌜ r ≡ lastRefusal m handle (now (diags .entry)) ⌝ }
 {
     access::images::pooled_refusal(m, handle, diags.len(), m.parameters.diag_pool)
 }

@@ -45,9 +45,9 @@ use Rattle.telegrams.specs.declared.diagnosis.DiagnosticsInfo.{DiagnosticsInfo}
 use Rattle.peripheral_set.specs.declared.PeripheralHandle.{PeripheralHandle}
 use Rattle.master.specs.declared.unit.DpMaster.{DpMaster}
 use Rattle.access.specs.declared.diagnosis.LastDiagnosis.{LastDiagnosis}
-use Rattle.access.specs.Lookup.{foundIn, pooledRefusal, lastOf}
+use Rattle.access.specs.Lookup.{foundIn, lastOf}
 use Rattle.forms.specs.declared.diagnosis.PeripheralDiagnostics.{PeripheralDiagnostics}
-use Rattle.forms.specs.Diagnosis.{lastPart}
+use Rattle.forms.specs.Diagnosis.{lastRefusal, lastPart}
 use Rattle.telegrams.proofs.diagnosis.DiagnosticsInfo as I
 use Rattle.telegrams.proofs.diagnosis.DiagnosticsInfo.Laws as I′
 use Rattle.peripheral_set.proofs.PeripheralHandle as P
@@ -124,7 +124,7 @@ module _ {M : Type 1} (𝓤 : URA M) (H : Heap 𝓤) (A : Atoms 𝓤) (W : Given
   to-part = (((κ, tt), (q, tt), tt, a, vals), tt)
 
   abbrev Numbers : LastDiagnosis → Type 0
-  Numbers d = d ≡ lastOf (pooledRefusal (length (now s)) (m .parameters .«diag_pool») h (m .occupied)) (foundIn m h)
+  Numbers d = d ≡ lastOf (lastRefusal m h (now s)) (foundIn m h)
 
   abbrev Said : RefT (List ℕ) → Type 0
   Said x = now x ≡ lastPart m h (now s)
