@@ -15,11 +15,9 @@ use Rattle.parts.specs.Parts.{pick}
 use Rattle.parts.proofs.Laws.{and-left, and-right}
 use Rattle.peripheral_set.specs.declared.Entry.{Entry}
 use Rattle.peripheral_set.specs.Marks.{slots, isOccupied, listedFrom, listed}
-use Rattle.cycle.specs.Refusal.{unless}
 use Rattle.master.specs.declared.unit.DpMaster.{DpMaster}
 use Rattle.access.specs.Lookup.{entryAt}
-use Rattle.forms.specs.declared.listing.Listed.{Listed}
-use Rattle.forms.specs.Listing.{entries, overlay, Iterated}
+use Rattle.forms.specs.Listing.{entries, shown, listedIn, overlay}
 use Rattle.forms.proofs.Filling.{as-many}
 
 module _ (marks : List Bool) (d : ℕ) where
@@ -112,23 +110,16 @@ front : (new rest : List Entry) → (take (length new) (new ++ rest) ≡ new) ×
 front [] rest = (refl, refl)
 front (x ∷ new) rest = (ap (λ (l : List Entry). x ∷ l) (front new rest .0), front new rest .1)
 
-module _ (m : DpMaster) (before after : List Entry) (r : Listed) (i : Iterated m before after r) where
-  -- the answer and the list where the test of the length comes out as b
-  abbrev answered : Bool → Listed
-  answered b = record { refusal = unless b 2 0; count = length (pick b (entries m) []) }
-
-  abbrev left : Bool → List Entry
-  left b = overlay (pick b (entries m) []) before
+module _ (m : DpMaster) (before : List Entry) where
+  -- what is left of a list
+  abbrev left : List Entry
+  left = overlay (shown m (length before)) before
 
   -- a list that is too short: 2, no entry, nothing touched
-  pub list-refused : length before < slots → (r ≡ (record { refusal = 2; count = 0 })) × (after ≡ before)
-  list-refused l = let e = lt-leb slots (length before) l in (i .answer ∙ ap answered e, i .list ∙ ap left e)
+  pub list-refused : length before < slots → (listedIn m (length before) ≡ (record { refusal = 2; count = 0 })) × (left ≡ before)
+  list-refused l = rw (lt-leb slots (length before) l) (refl, refl)
 
   -- else all entries stand in front, and the rest is as it was
-  pub list-filled : slots ≤ length before → (r ≡ (record { refusal = 0; count = length (entries m) })) × (take (r .count) after ≡ entries m) × (drop (r .count) after ≡ drop (r .count) before)
-  list-filled l =
-      let e = le-leb slots (length before) l in
-      let a : r ≡ (record { refusal = 0; count = length (entries m) }) = i .answer ∙ ap answered e in
-      let n : r .count ≡ length (entries m) = ap (λ (x : Listed). x .count) a in
-      let o : after ≡ overlay (entries m) before = i .list ∙ ap left e in
-      (a, rw (n, o) (front (entries m) (drop (length (entries m)) before) .0), rw (n, o) (front (entries m) (drop (length (entries m)) before) .1))
+  pub list-filled : slots ≤ length before → (listedIn m (length before) ≡ (record { refusal = 0; count = length (entries m) }))
+      × (take (length (entries m)) left ≡ entries m) × (drop (length (entries m)) left ≡ drop (length (entries m)) before)
+  list-filled l = let f = front (entries m) (drop (length (entries m)) before) in rw (le-leb slots (length before) l) (refl, f .0, f .1)
