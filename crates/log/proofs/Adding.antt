@@ -19,7 +19,8 @@ use Rattle.peripheral_set.specs.Marks.{slots, firstEmpty}
 use Rattle.peripheral_set.proofs.Laws.{search-found}
 use Rattle.cycle.specs.declared.refusal.Lent.{Lent}
 use Rattle.cycle.specs.declared.refusal.Lengths.{Lengths}
-use Rattle.cycle.proofs.Laws.{lent-inputs, add-slot, add-room, input-room}
+use Rattle.cycle.proofs.Laws.{input-room}
+use Rattle.master.proofs.Checks.{lent-inputs, add-slot, add-room}
 use Rattle.master.specs.declared.unit.DpMaster.{DpMaster}
 use Rattle.master.specs.declared.add.Addition.{Addition}
 use Rattle.master.specs.Add.{rangesAt, optionsHeld, cleared, lengthsOf, userOf, configOf}
