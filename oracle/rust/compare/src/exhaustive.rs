@@ -66,7 +66,8 @@ fn balance(rng: &mut Rng, addr: u8, inputs: usize, outputs: usize, room: usize) 
 }
 
 fn start(s: &mut Script, retry: u8, balances: &[Balance]) {
-    let mut pools = [0; 4];
+    // some bytes behind the last range: what is stored past it shows in the dumps
+    let mut pools = [300; 4];
     for b in balances {
         for (p, n) in pools.iter_mut().zip(b.needs()) {
             *p += n;
@@ -117,7 +118,9 @@ fn drive(s: &mut Script, rng: &mut Rng, wanted: usize) {
 /// One reply in one state.
 fn one(s: &mut Script, rng: &mut Rng, shape: (usize, usize, usize, u8, usize), at: usize, r: &Reply, beside: usize) {
     let (inputs, outputs, room, retry, silent) = shape;
-    let mut balances = vec![balance(rng, 5, inputs, outputs, room)];
+    let mut first = balance(rng, 5, inputs, outputs, room);
+    (first.sync, first.freeze, first.groups) = (at % 2 == 0, at % 3 == 0, at as u8);
+    let mut balances = vec![first];
     for k in 0..beside {
         balances.push(balance(rng, 10 + k as u8, 1, 1, 0));
     }
@@ -136,12 +139,14 @@ fn one(s: &mut Script, rng: &mut Rng, shape: (usize, usize, usize, u8, usize), a
     assert!(arrival(&s.unit().view(0), s.open().unwrap().request) == at);
     s.reply(r);
     s.dump();
+    s.listing();
     for _ in 0..4 {
         turn(s);
     }
     s.dump();
     s.diagnosis(0);
     s.inputs(0);
+    s.listing();
     s.finish(0);
 }
 
