@@ -12,6 +12,9 @@ use lib.Dec.{ltb}
 use borrow.Author.Tests.{lt-ltb, le-ltb}
 use Rattle.parts.specs.Parts.{pick}
 use Rattle.parts.proofs.Laws.{by-test}
+use Rattle.peripheral.specs.declared.record.Peripheral.{Peripheral}
+use Rattle.peripheral.specs.Record.{blank}
+use Rattle.lines.specs.Dump.{slotIf, slotsFrom}
 use Rattle.lines.specs.Write.{Out, standing, put, written, fieldText, fieldsText, hexDigit, hexText, bytesText, decimalIn, digitOf, sumFrom, sumStep}
 
 -- ---- lists
@@ -105,3 +108,14 @@ sum-next h b all l i p e q =
 pub sum-end : (h : ℕ) (l : List ℕ) (i : ℕ) → length l ≤ i → sumFrom h (drop i l) ≡ h
 unfolding sumFrom
 sum-end h l i p = rw (none-left l i p)
+
+-- ---- slots of a dump
+
+pub slots-next : (n : ℕ) (marks : List Bool) (all : List Peripheral) (i : ℕ) → i < n
+    → slotsFrom (n - i) marks all i ≡ slotIf (getD marks i false) i (getD all i blank) ++ slotsFrom (n - (i + 1)) marks all (i + 1)
+unfolding slotsFrom
+slots-next n marks all i h = let e : n - i ≡ suc (n - (i + 1)) = omega arith in rw e
+
+pub slots-end : (n : ℕ) (marks : List Bool) (all : List Peripheral) (i : ℕ) → n ≤ i → slotsFrom (n - i) marks all i ≡ []
+unfolding slotsFrom
+slots-end n marks all i h = let e : n - i ≡ 0 = omega arith in rw e

@@ -179,9 +179,10 @@ pub record Pairing (s : List ℕ) (count : ℕ) (whole out : List ℕ) (n i : �
 module _ (s : List ℕ) (count : ℕ) (whole out : List ℕ) (n i : ℕ) (p : Pairing s count whole out n i) where
   -- nothing is left
   pub pairing-ends : pairsOf (most - n) (drop i s) ≡ [] → (n ≡ count) × (out ≡ whole)
-  pairing-ends e =
-      (let z : n + 0 ≡ count = subst (λ (l : List ℕ). n + length l ≡ count) e (p .size) in omega arith,
-      subst (λ (l : List ℕ). sets out n l ≡ whole) e (p .array))
+  pairing-ends e = (
+    let z : n + 0 ≡ count = subst (λ (l : List ℕ). n + length l ≡ count) e (p .size) in omega arith,
+    subst (λ (l : List ℕ). sets out n l ≡ whole) e (p .array),
+  )
 
   pub pairing-stops : isPair (drop i s) ≡ false → (n ≡ count) × (out ≡ whole)
   pairing-stops e = pairing-ends (pairs-stop s i (most - n) e)
@@ -201,10 +202,10 @@ module _ (s : List ℕ) (count : ℕ) (whole out : List ℕ) (n i : ℕ) (p : Pa
       record {
         few = omega arith;
         size =
-        let z : n + suc (length (pairsOf (most - (n + 1)) (drop (i + 2) s))) ≡ count = subst (λ (l : List ℕ). n + length l ≡ count) q (p .size) in omega arith;
+            let z : n + suc (length (pairsOf (most - (n + 1)) (drop (i + 2) s))) ≡ count = subst (λ (l : List ℕ). n + length l ≡ count) q (p .size) in omega arith;
         array =
-        subst (λ (m : ℕ). sets (set out n (a * 16 + b)) m (pairsOf (most - (n + 1)) (drop (i + 2) s)) ≡ whole) (sym (add-one n))
-        (subst (λ (l : List ℕ). sets out n l ≡ whole) q (p .array));
+            subst (λ (m : ℕ). sets (set out n (a * 16 + b)) m (pairsOf (most - (n + 1)) (drop (i + 2) s)) ≡ whole) (sym (add-one n))
+            (subst (λ (l : List ℕ). sets out n l ≡ whole) q (p .array));
       }
 
 -- the pairs lie in the line, and there are not too many

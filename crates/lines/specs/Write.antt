@@ -1,6 +1,7 @@
 -- The fields of an answer as bytes, and how they come into a buffer. From docs/SCRIPTS.md, "Fields" and "Answers" (checksum).
 use mathlib.Core.Path.{_≡_}
 use Prim.Native.Nat.{ℕ, zero, suc, _+_, _*_, _/_, _%_}
+use mathlib.Core.Bool.{Bool, true, false}
 use mathlib.Core.List.{List, [], _∷_, _++_}
 use lib.ListN.{length, set}
 use lib.Dec.{ltb}
@@ -43,6 +44,11 @@ decimalIn (suc k) n = pick (ltb n 10) (digitOf n ∷ []) (decimalIn k (n / 10) +
 -- a number: the largest, below 2^64, has 20 digits
 abbrev pub decimal : ℕ → List ℕ
 decimal n = decimalIn 20 n
+
+-- a flag
+abbrev pub flagNumber : Bool → ℕ
+flagNumber true = 1
+flagNumber false = 0
 
 -- a number after a space
 abbrev pub fieldText : ℕ → List ℕ

@@ -3,7 +3,7 @@
 ghost use mathlib.Core.Path.{_≡_};
 ghost use mathlib.Core.List.{[], _∷_};
 ghost use Prim.Native.Nat.{_<_};
-ghost use Rattle.lines.specs.Write.{Wrote, digitOf, decimalIn, decimal, fieldText, fieldsText, hexDigit, hexText, bytesText, sumOf};
+ghost use Rattle.lines.specs.Write.{Wrote, digitOf, decimalIn, decimal, flagNumber, fieldText, fieldsText, hexDigit, hexText, bytesText, sumOf};
 
 fn wide(b: u8) -> u64
     ensures { λ r. ⌜ (r ≡ b) × (r < 256) ⌝ }
@@ -48,6 +48,13 @@ pub fn number(out: &mut [u8], at: usize, n: u64) -> usize
     ensures { λ r. ⌜ Wrote (decimal n) at (now (out .entry)) (now (out .exit)) r ⌝ }
 {
     decimal(out, at, n, 20)
+}
+
+// A flag, as a number.
+pub fn flag(b: bool) -> u64
+    ensures { λ r. ⌜ r ≡ flagNumber b ⌝ }
+{
+    if b { 1 } else { 0 }
 }
 
 // A space and a number.

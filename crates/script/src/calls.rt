@@ -121,10 +121,7 @@ pub fn new(
         own: lent,
         lent: lent,
     };
-    Step {
-        run: run,
-        at: next,
-    }
+    Step { run: run, at: next }
 }
 
 // L.
@@ -151,10 +148,7 @@ pub fn fill_pools(
     fill(outputs, b);
     fill(diags, b);
     let next = answer::bare(out, at, b'P');
-    Step {
-        run: run,
-        at: next,
-    }
+    Step { run: run, at: next }
 }
 
 // Each entry becomes (b, b, b mod 2).
@@ -179,10 +173,7 @@ pub fn fill_payload(
     fill(payload, b);
     fill_list(list, b);
     let next = answer::bare(out, at, b'F');
-    Step {
-        run: run,
-        at: next,
-    }
+    Step { run: run, at: next }
 }
 
 // A.
@@ -452,17 +443,11 @@ pub fn dump(
         diags: lines::write::sum(diags),
     };
     let next = lines::dump::dump(out, at, unit, sums);
-    Step {
-        run: run,
-        at: next,
-    }
+    Step { run: run, at: next }
 }
 
 // B.
 pub fn payload(run: Run, payload: &[u8], out: &mut [u8], at: usize) -> Step {
     let next = answer::numbered(out, at, b'B', lines::write::sum(payload));
-    Step {
-        run: run,
-        at: next,
-    }
+    Step { run: run, at: next }
 }

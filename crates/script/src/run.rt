@@ -8,10 +8,7 @@ use lines::call::Call;
 // A line that is no call changes nothing.
 fn unknown(run: Run, out: &mut [u8], at: usize) -> Step {
     let next = answer::bare(out, at, b'?');
-    Step {
-        run: run,
-        at: next,
-    }
+    Step { run: run, at: next }
 }
 
 // The line `s`, of which only the first part came where it was too long.
@@ -33,7 +30,7 @@ pub fn line(
     }
     let mut a = [0u8; 255];
     let mut b = [0u8; 255];
-    let call = lines::call::call(s, &mut a, &mut b);
+    let call = lines::call::parse(s, &mut a, &mut b);
     if let Call::New(p) = call {
         return calls::new(p, setup, inputs, outputs, diags, payload, list, out, at);
     }
@@ -54,7 +51,16 @@ pub fn line(
             let first = parts::part(&a, 0, user);
             let second = parts::part(&b, 0, config);
             calls::add(
-                run, addition, first, second, setup, inputs, outputs, diags, out, at,
+                run,
+                addition,
+                first,
+                second,
+                setup,
+                inputs,
+                outputs,
+                diags,
+                out,
+                at,
             )
         }
         Call::State(state) => calls::state(run, state, out, at),

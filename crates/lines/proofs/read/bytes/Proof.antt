@@ -1,11 +1,11 @@
 -- `bytes` meets its contract: a law for each way out, with the place behind the space as it was found.
+use borrow.Author.Needs.{needs}
 use mathlib.Core.Path.{sym, _∙_}
 use native.Mathlib.Omega.{arith}
 use lib.ListN.{drop, length-drop}
 use borrow.Author.Tests.{not-true, not-false}
 use Rattle.lines.specs.Read.{most}
 use Rattle.lines.proofs.Reading.{has-lt, pairs-within, pairs-few, bytes-bad, bytes-dash, bytes-some, bytes-none, bytes-there}
-use borrow.Author.Needs.{needs}
 use Rattle.lines.proofs.read.bytes.Statement.{statement}
 use Rattle.lines.proofs.read.bytes.Tie as tie
 
@@ -60,20 +60,4 @@ returns-4 c =
     (bytes-none (c .before .before .before .before .before .before .before .before .before .before .args .s .now) _ (c .before .before .before .before .before .before .before .before .space .result .at) (c .before .before .before .before .before .before .before .before .before .before .args .out .now) (c .before .before .pairs .result) _ (not-false _ (c .before .before .before .before .before .before .if1 .left)) (sym (c .before .before .before .before .before .has .ensures) ∙ c .before .before .before .before .if2 .left) (c .before .before .pairs .ensures) (c .before .if3 .left)))
 
 pub bytes-spec : {M : Type 1} → statement M
-bytes-spec =
-    tie.close
-    (tie.spec
-    space-requires
-    no-bytes-requires
-    returns
-    has-requires
-    add-some-bytes
-    some-bytes-requires
-    returns-2
-    pairs-requires
-    mul-some-bytes
-    add-some-bytes-2
-    some-bytes-requires-2
-    returns-3
-    no-bytes-requires-2
-    returns-4)
+bytes-spec = tie.close (tie.spec space-requires no-bytes-requires returns has-requires add-some-bytes some-bytes-requires returns-2 pairs-requires mul-some-bytes add-some-bytes-2 some-bytes-requires-2 returns-3 no-bytes-requires-2 returns-4)

@@ -71,26 +71,4 @@ returns-4 : tie.Need-returns-4 Inv-loop μ-loop
 returns-4 c = c .found2 .ensures ∙ digits-end (c .before .before .before .before .args .limit) (c .before .before .loop .value) (c .before .before .loop .i) (c .before .before .before .before .args .s .now) (c .before .loop-test .left) ∙ c .before .before .loop .inv
 
 pub digits-spec : {M : Type 1} → statement M
-digits-spec =
-    tie.close
-    (tie.spec
-    Inv-loop
-    μ-loop
-    loop-holds
-    shared-slice-read-b
-    is-digit-requires
-    found-requires
-    returns
-    wide-requires
-    sub-d
-    no-number-requires
-    returns-2
-    no-number-requires-2
-    returns-3
-    mul-value
-    add-value
-    add-i
-    loop-less
-    loop-again
-    found-requires-2
-    returns-4)
+digits-spec = tie.close (tie.spec Inv-loop μ-loop loop-holds shared-slice-read-b is-digit-requires found-requires returns wide-requires sub-d no-number-requires returns-2 no-number-requires-2 returns-3 mul-value add-value add-i loop-less loop-again found-requires-2 returns-4)

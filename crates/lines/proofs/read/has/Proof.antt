@@ -1,7 +1,7 @@
 -- `has` meets its contract: the byte is compared where there is one.
+use borrow.Author.Needs.{needs}
 use borrow.Author.Tests.{lt-ltb, le-ltb}
 use Rattle.lines.specs.Read.{hasAt}
-use borrow.Author.Needs.{needs}
 use Rattle.lines.proofs.read.has.Statement.{statement}
 use Rattle.lines.proofs.read.has.Tie as tie
 

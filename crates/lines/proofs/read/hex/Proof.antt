@@ -1,10 +1,10 @@
 -- `hex` meets its contract: a digit, a letter, or none.
+use borrow.Author.Needs.{needs}
 use mathlib.Core.Path.{sym, _∙_}
 use native.Mathlib.Omega.{arith}
 use borrow.Author.Tests.{lt-ltb, le-ltb}
 use Rattle.lines.specs.Read.{hexWorth}
 use Rattle.lines.proofs.Reading.{digit-low, digit-high}
-use borrow.Author.Needs.{needs}
 use Rattle.lines.proofs.read.hex.Statement.{statement}
 use Rattle.lines.proofs.read.hex.Tie as tie
 
@@ -34,6 +34,4 @@ unfolding hexWorth
 returns-4 c = (simp (sym (c .before .before .before .is-digit .ensures) ∙ c .before .before .if1 .left, le-ltb _ _ (c .before .if2 .left), le-ltb _ _ (c .if3 .left)), omega arith)
 
 pub hex-spec : {M : Type 1} → statement M
-hex-spec =
-    tie.close
-    (tie.spec is-digit-requires sub-result returns returns-2 returns-3 sub-result-2 returns-4)
+hex-spec = tie.close (tie.spec is-digit-requires sub-result returns returns-2 returns-3 sub-result-2 returns-4)

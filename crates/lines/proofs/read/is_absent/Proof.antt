@@ -1,6 +1,6 @@
 -- `is_absent` meets its contract.
-use Rattle.lines.specs.Read.{absentOn}
 use borrow.Author.Needs.{needs}
+use Rattle.lines.specs.Read.{absentOn}
 use Rattle.lines.proofs.read.is_absent.Statement.{statement}
 use Rattle.lines.proofs.read.is_absent.Tie as tie
 

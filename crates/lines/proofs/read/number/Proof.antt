@@ -1,10 +1,10 @@
 -- `number` meets its contract: a law for each way out, with the place behind the space as it was found.
+use borrow.Author.Needs.{needs}
 use mathlib.Core.Path.{sym, ap, _∙_}
 use native.Mathlib.Omega.{arith}
 use borrow.Author.Tests.{not-true, not-false}
 use Rattle.lines.specs.Read.{isDigit}
 use Rattle.lines.proofs.Reading.{has-lt, number-bad, number-zero, number-digits, number-none, number-there}
-use borrow.Author.Needs.{needs}
 use Rattle.lines.proofs.read.number.Statement.{statement}
 use Rattle.lines.proofs.read.number.Tie as tie
 
@@ -56,19 +56,4 @@ returns-4 c =
     (c .no-number2 .ensures ∙ number-none (c .before .before .before .before .before .before .before .before .before .before .args .limit) (c .before .before .before .before .before .before .before .before .before .before .args .s .now) _ (c .before .before .before .before .before .before .before .before .space .result .at) (not-false _ (c .before .before .before .before .before .before .if1 .left)) (sym (c .before .before .before .before .before .has .ensures) ∙ c .before .before .before .before .if2 .left) (sym (c .before .before .is-digit .ensures ∙ ap isDigit (c .before .before .before .byte-at .ensures)) ∙ c .before .if3 .left))
 
 pub number-spec : {M : Type 1} → statement M
-number-spec =
-    tie.close
-    (tie.spec
-    space-requires
-    no-number-requires
-    returns
-    has-requires
-    add-found
-    found-requires
-    returns-2
-    byte-at-requires
-    is-digit-requires
-    digits-requires
-    returns-3
-    no-number-requires-2
-    returns-4)
+number-spec = tie.close (tie.spec space-requires no-number-requires returns has-requires add-found found-requires returns-2 byte-at-requires is-digit-requires digits-requires returns-3 no-number-requires-2 returns-4)

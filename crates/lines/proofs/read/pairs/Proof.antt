@@ -75,27 +75,4 @@ returns-5 : tie.Need-returns-5 Inv-loop μ-loop
 returns-5 c = pairing-full (c .before .before .before .args .s .now) _ _ (c .before .loop .out) (c .before .loop .n) (c .before .loop .i) (c .before .loop .inv) (c .loop-test .left)
 
 pub pairs-spec : {M : Type 1} → statement M
-pairs-spec =
-    tie.close
-    (tie.spec
-    Inv-loop
-    μ-loop
-    loop-holds
-    returns
-    sub-if2
-    returns-2
-    shared-slice-read-hex
-    hex-requires
-    add-hex
-    shared-slice-read-hex-2
-    hex-requires-2
-    returns-3
-    returns-4
-    mul-out
-    add-out
-    element-write-out
-    add-n
-    add-i
-    loop-less
-    loop-again
-    returns-5)
+pairs-spec = tie.close (tie.spec Inv-loop μ-loop loop-holds returns sub-if2 returns-2 shared-slice-read-hex hex-requires add-hex shared-slice-read-hex-2 hex-requires-2 returns-3 returns-4 mul-out add-out element-write-out add-n add-i loop-less loop-again returns-5)

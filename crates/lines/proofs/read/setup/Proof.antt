@@ -1,8 +1,8 @@
 -- `setup` meets its contract: absent, or as bytes.
+use borrow.Author.Needs.{needs}
 use mathlib.Core.Path.{sym, _∙_}
 use native.Mathlib.Omega.{arith}
 use Rattle.lines.proofs.Reading.{absent-lt, setup-absent, setup-present}
-use borrow.Author.Needs.{needs}
 use Rattle.lines.proofs.read.setup.Statement.{statement}
 use Rattle.lines.proofs.read.setup.Tie as tie
 
@@ -25,5 +25,4 @@ returns-2 : tie.Need-returns-2
 returns-2 c = setup-present (c .before .before .before .before .before .before .args .s .now) (c .before .before .before .before .before .before .args .c) (c .before .before .before .before .space .result) (c .before .before .before .before .before .before .args .out .now) _ _ (c .before .before .before .before .space .ensures) (sym (c .before .before .before .is-absent .ensures) ∙ c .before .before .if1 .left) (c .bytes .ensures)
 
 pub setup-spec : {M : Type 1} → statement M
-setup-spec =
-    tie.close (tie.spec space-requires is-absent-requires add-t8 returns bytes-requires returns-2)
+setup-spec = tie.close (tie.spec space-requires is-absent-requires add-t8 returns bytes-requires returns-2)

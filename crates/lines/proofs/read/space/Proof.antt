@@ -1,9 +1,9 @@
 -- `space` meets its contract: what went wrong stays so.
+use borrow.Author.Needs.{needs}
 use mathlib.Core.Path.{sym, _∙_}
 use native.Mathlib.Omega.{arith}
 use borrow.Author.Tests.{not-true, not-false}
 use Rattle.lines.proofs.Reading.{has-lt, space-bad, space-found, space-missing}
-use borrow.Author.Needs.{needs}
 use Rattle.lines.proofs.read.space.Statement.{statement}
 use Rattle.lines.proofs.read.space.Tie as tie
 
@@ -32,14 +32,4 @@ returns-3 : tie.Need-returns-3
 returns-3 c = c .wrong2 .ensures ∙ space-missing (c .before .before .before .before .before .before .args .s .now) _ (c .before .before .before .before .before .before .args .c .at) (not-false _ (c .before .before .before .if1 .left)) (sym (c .before .before .has .ensures) ∙ c .before .if2 .left)
 
 pub space-spec : {M : Type 1} → statement M
-space-spec =
-    tie.close
-    (tie.spec
-    wrong-requires
-    returns
-    has-requires
-    add-right
-    right-requires
-    returns-2
-    wrong-requires-2
-    returns-3)
+space-spec = tie.close (tie.spec wrong-requires returns has-requires add-right right-requires returns-2 wrong-requires-2 returns-3)

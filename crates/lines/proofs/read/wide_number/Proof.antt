@@ -1,9 +1,9 @@
 -- `wide_number` meets its contract: what is read is at most the limit, which fits.
+use borrow.Author.Needs.{needs}
 use mathlib.Core.Path.{sym, ap}
 use native.Mathlib.Omega.{arith}
 use Rattle.lines.specs.declared.read.U64Field.{U64Field}
 use Rattle.lines.proofs.Reading.{number-limit}
-use borrow.Author.Needs.{needs}
 use Rattle.lines.proofs.read.wide_number.Statement.{statement}
 use Rattle.lines.proofs.read.wide_number.Tie as tie
 

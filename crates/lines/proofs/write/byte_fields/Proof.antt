@@ -48,17 +48,4 @@ returns : tie.Need-returns Inv-loop μ-loop
 returns c = all-written (fieldsText (drop (c .before .loop .i) (c .before .before .before .before .args .list .now))) _ _ (fields-end (c .before .before .before .before .args .list .now) (c .before .loop .i) (c .loop-test .left)) (c .before .loop .inv .2)
 
 pub byte-fields-spec : {M : Type 1} → statement M
-byte-fields-spec =
-    tie.close
-    (tie.spec
-    Inv-loop
-    μ-loop
-    loop-holds
-    shared-slice-read-wide
-    wide-requires
-    field-requires
-    add-i
-    loop-less
-    loop-again
-    same-length
-    returns)
+byte-fields-spec = tie.close (tie.spec Inv-loop μ-loop loop-holds shared-slice-read-wide wide-requires field-requires add-i loop-less loop-again same-length returns)

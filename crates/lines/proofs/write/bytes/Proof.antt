@@ -30,13 +30,4 @@ returns-2 : tie.Need-returns-2
 returns-2 c = then (32 ∷ []) (hexText (c .before .before .before .before .before .before .before .before .before .before .before .args .list .now)) _ _ _ (c .before .before .before .before .before .before .before .put .ensures) (c .before .before .pairs .ensures) ∙ ap (λ (w : List ℕ). written (32 ∷ w) (standing (c .before .before .before .before .before .before .before .before .before .before .before .args .at) (c .before .before .before .before .before .before .before .before .before .before .before .args .out .now))) (sym (some-bytes (c .before .before .before .before .before .before .before .before .before .before .before .args .list .now) (c .before .before .before .before .if1 .left)))
 
 pub bytes-spec : {M : Type 1} → statement M
-bytes-spec =
-    tie.close
-    (tie.spec
-    put-requires
-    put-requires-2
-    same-length
-    returns
-    pairs-requires
-    same-length-2
-    returns-2)
+bytes-spec = tie.close (tie.spec put-requires put-requires-2 same-length returns pairs-requires same-length-2 returns-2)

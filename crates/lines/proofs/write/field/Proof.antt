@@ -1,9 +1,9 @@
 -- `field` meets its contract: a space, and then the number.
+use borrow.Author.Needs.{needs}
 use mathlib.Core.Path.{_∙_}
 use mathlib.Core.List.{[], _∷_}
 use Rattle.lines.specs.Write.{decimal}
 use Rattle.lines.proofs.Laws.{then}
-use borrow.Author.Needs.{needs}
 use Rattle.lines.proofs.write.field.Statement.{statement}
 use Rattle.lines.proofs.write.field.Tie as tie
 

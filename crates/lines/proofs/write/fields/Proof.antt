@@ -49,17 +49,4 @@ returns : tie.Need-returns Inv-loop μ-loop
 returns c = all-written (fieldsText (drop (c .before .loop .i) (c .before .before .before .before .args .list .now))) _ _ (fields-end (c .before .before .before .before .args .list .now) (c .before .loop .i) (c .loop-test .left)) (c .before .loop .inv .2)
 
 pub fields-spec : {M : Type 1} → statement M
-fields-spec =
-    tie.close
-    (tie.spec
-    Inv-loop
-    μ-loop
-    loop-holds
-    mul-field
-    shared-slice-read-field
-    field-requires
-    add-i
-    loop-less
-    loop-again
-    same-length
-    returns)
+fields-spec = tie.close (tie.spec Inv-loop μ-loop loop-holds mul-field shared-slice-read-field field-requires add-i loop-less loop-again same-length returns)

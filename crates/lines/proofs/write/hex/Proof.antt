@@ -1,7 +1,7 @@
 -- `hex` meets its contract: a digit, or a letter.
+use borrow.Author.Needs.{needs}
 use native.Mathlib.Omega.{arith}
 use borrow.Author.Tests.{lt-ltb, le-ltb}
-use borrow.Author.Needs.{needs}
 use Rattle.lines.proofs.write.hex.Statement.{statement}
 use Rattle.lines.proofs.write.hex.Tie as tie
 

@@ -58,19 +58,4 @@ returns : tie.Need-returns Inv-loop μ-loop
 returns c = all-written (hexText (drop (c .before .loop .i) (c .before .before .before .before .args .list .now))) _ _ (hex-end (c .before .before .before .before .args .list .now) (c .before .loop .i) (c .loop-test .left)) (c .before .loop .inv .2)
 
 pub pairs-spec : {M : Type 1} → statement M
-pairs-spec =
-    tie.close
-    (tie.spec
-    Inv-loop
-    μ-loop
-    loop-holds
-    shared-slice-read-b
-    hex-requires
-    put-requires
-    hex-requires-2
-    put-requires-2
-    add-i
-    loop-less
-    loop-again
-    same-length
-    returns)
+pairs-spec = tie.close (tie.spec Inv-loop μ-loop loop-holds shared-slice-read-b hex-requires put-requires hex-requires-2 put-requires-2 add-i loop-less loop-again same-length returns)

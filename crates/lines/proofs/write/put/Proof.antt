@@ -1,6 +1,6 @@
 -- `put` meets its contract: there is room for the byte, or none.
-use Rattle.lines.proofs.Laws.{put-in, put-out}
 use borrow.Author.Needs.{needs}
+use Rattle.lines.proofs.Laws.{put-in, put-out}
 use Rattle.lines.proofs.write.put.Statement.{statement}
 use Rattle.lines.proofs.write.put.Tie as tie
 

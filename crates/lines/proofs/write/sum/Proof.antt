@@ -42,17 +42,4 @@ returns : tie.Need-returns Inv-loop μ-loop
 returns c = sym (sum-end (c .before .loop .h) (c .before .before .before .args .list .now) (c .before .loop .i) (c .loop-test .left)) ∙ c .before .loop .inv .2
 
 pub sum-spec : {M : Type 1} → statement M
-sum-spec =
-    tie.close
-    (tie.spec
-    Inv-loop
-    μ-loop
-    loop-holds
-    mul-h
-    shared-slice-read-wide
-    wide-requires
-    add-h
-    add-i
-    loop-less
-    loop-again
-    returns)
+sum-spec = tie.close (tie.spec Inv-loop μ-loop loop-holds mul-h shared-slice-read-wide wide-requires add-h add-i loop-less loop-again returns)
