@@ -44,7 +44,7 @@ fn parameters(out: &mut [u8], at: usize, u: Parameters) -> usize
         write::flag(u.watchdog),
         u.watchdog_first as u64,
         u.watchdog_second as u64,
-        u.min_tsdr_bits as u64,
+        write::wide(u.min_tsdr_bits),
         u.setup_pool as u64,
         u.input_pool as u64,
         u.output_pool as u64,

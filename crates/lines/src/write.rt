@@ -5,7 +5,8 @@ ghost use mathlib.Core.List.{[], _∷_};
 ghost use Prim.Native.Nat.{_<_};
 ghost use Rattle.lines.specs.Write.{Wrote, digitOf, decimalIn, decimal, flagNumber, fieldText, fieldsText, hexDigit, hexText, bytesText, sumOf};
 
-fn wide(b: u8) -> u64
+// A byte, as a number.
+pub fn wide(b: u8) -> u64
     ensures { λ r. ⌜ (r ≡ b) × (r < 256) ⌝ }
 {
     b as u64

@@ -1,6 +1,6 @@
 -- `parameters` meets its contract: eleven numbers.
-use borrow.Author.Needs.{needs}
 use Rattle.lines.specs.Dump.{parametersText}
+use borrow.Author.Needs.{needs}
 use Rattle.lines.proofs.dump.parameters.Statement.{statement}
 use Rattle.lines.proofs.dump.parameters.Tie as tie
 
@@ -22,8 +22,8 @@ cast-t9 c = search needs
 cast-t10 : tie.Need-cast-t10
 cast-t10 c = search needs
 
-cast-t11 : tie.Need-cast-t11
-cast-t11 c = search needs
+wide-requires : tie.Need-wide-requires
+wide-requires c κs = search needs
 
 cast-t12 : tie.Need-cast-t12
 cast-t12 c = search needs
@@ -48,7 +48,24 @@ same-length c = c .before .before .fields .kept .0
 
 returns : tie.Need-returns
 unfolding parametersText
-returns c = simp (c .before .before .before .before .before .before .before .before .before .before .before .before .flag .ensures) at (c .before .before .fields .ensures)
+returns c = simp (c .before .before .before .before .before .before .before .before .before .before .before .before .flag .ensures, c .before .before .before .before .before .before .before .before .before .wide .ensures .0) at (c .before .before .fields .ensures)
 
 pub parameters-spec : {M : Type 1} → statement M
-parameters-spec = tie.close (tie.spec cast-t5 cast-t6 cast-t7 flag-requires cast-t9 cast-t10 cast-t11 cast-t12 cast-t13 cast-t14 cast-t15 slice-aggregate-fields fields-requires same-length returns)
+parameters-spec =
+    tie.close
+    (tie.spec
+    cast-t5
+    cast-t6
+    cast-t7
+    flag-requires
+    cast-t9
+    cast-t10
+    wide-requires
+    cast-t12
+    cast-t13
+    cast-t14
+    cast-t15
+    slice-aggregate-fields
+    fields-requires
+    same-length
+    returns)

@@ -42,10 +42,12 @@ loop-less c = omega arith
 
 loop-again : tie.Need-loop-again Inv-loop μ-loop
 loop-again c =
-    let i = c .before .before .before .before .before .before .loop .i in
-    (omega arith, c .before .before .slot-if .kept .0 ∙ c .before .before .before .before .before .before .loop .inv .1,
-     left-to-write (slotsFrom (slotCount - i) (c .before .before .before .before .before .before .before .before .args .t3) (c .before .before .before .before .before .before .before .before .args .t4) i) (slotIf (getD (c .before .before .before .before .before .before .before .before .args .t3) i false) i (getD (c .before .before .before .before .before .before .before .before .args .t4) i blank)) (slotsFrom (slotCount - (i + 1)) (c .before .before .before .before .before .before .before .before .args .t3) (c .before .before .before .before .before .before .before .before .args .t4) (i + 1)) (standing (c .before .before .before .before .before .before .loop .next) (c .before .before .before .before .before .before .loop .out)) _ _
-     (slots-next slotCount (c .before .before .before .before .before .before .before .before .args .t3) (c .before .before .before .before .before .before .before .before .args .t4) i (c .before .before .before .before .before .loop-test .taken)) (c .before .before .slot-if .ensures) (c .before .before .before .before .before .before .loop .inv .2))
+    let i = c .before .before .before .before .before .before .loop .i in (
+      omega arith,
+      c .before .before .slot-if .kept .0 ∙ c .before .before .before .before .before .before .loop .inv .1,
+      left-to-write (slotsFrom (slotCount - i) (c .before .before .before .before .before .before .before .before .args .t3) (c .before .before .before .before .before .before .before .before .args .t4) i) (slotIf (getD (c .before .before .before .before .before .before .before .before .args .t3) i false) i (getD (c .before .before .before .before .before .before .before .before .args .t4) i blank)) (slotsFrom (slotCount - (i + 1)) (c .before .before .before .before .before .before .before .before .args .t3) (c .before .before .before .before .before .before .before .before .args .t4) (i + 1)) (standing (c .before .before .before .before .before .before .loop .next) (c .before .before .before .before .before .before .loop .out)) _ _
+          (slots-next slotCount (c .before .before .before .before .before .before .before .before .args .t3) (c .before .before .before .before .before .before .before .before .args .t4) i (c .before .before .before .before .before .loop-test .taken)) (c .before .before .slot-if .ensures) (c .before .before .before .before .before .before .loop .inv .2),
+    )
 
 same-length : tie.Need-same-length Inv-loop μ-loop
 same-length c = c .before .loop .inv .1

@@ -44,12 +44,14 @@ loop-again : tie.Need-loop-again Inv-loop μ-loop
 loop-again c =
     let l = c .before .before .before .before .before .before .before .before .before .before .before .before .before .before .before .args .list .now in
     let i = c .before .before .before .before .before .before .before .before .before .before .before .before .loop .i in
-    let o = standing (c .before .before .before .before .before .before .before .before .before .before .before .before .loop .next) (c .before .before .before .before .before .before .before .before .before .before .before .before .loop .out) in
-    (omega arith, c .before .before .put2 .kept .0 ∙ c .before .before .before .before .before .before .before .put .kept .0 ∙ c .before .before .before .before .before .before .before .before .before .before .before .before .loop .inv .1,
-    left-to-write (hexText (drop i l)) (c .before .before .before .before .before .before .before .before .hex .result ∷ c .before .before .before .hex2 .result ∷ []) (hexText (drop (i + 1) l)) o _ _
-    (simp (c .before .before .before .before .before .before .before .before .hex .ensures, c .before .before .before .hex2 .ensures) (hex-next l i (c .before .before .before .before .before .before .before .before .before .before .before .loop-test .taken)))
-    (then (c .before .before .before .before .before .before .before .before .hex .result ∷ []) (c .before .before .before .hex2 .result ∷ []) o _ _ (c .before .before .before .before .before .before .before .put .ensures) (c .before .before .put2 .ensures))
-    (c .before .before .before .before .before .before .before .before .before .before .before .before .loop .inv .2))
+    let o = standing (c .before .before .before .before .before .before .before .before .before .before .before .before .loop .next) (c .before .before .before .before .before .before .before .before .before .before .before .before .loop .out) in (
+      omega arith,
+      c .before .before .put2 .kept .0 ∙ c .before .before .before .before .before .before .before .put .kept .0 ∙ c .before .before .before .before .before .before .before .before .before .before .before .before .loop .inv .1,
+      left-to-write (hexText (drop i l)) (c .before .before .before .before .before .before .before .before .hex .result ∷ c .before .before .before .hex2 .result ∷ []) (hexText (drop (i + 1) l)) o _ _
+          (simp (c .before .before .before .before .before .before .before .before .hex .ensures, c .before .before .before .hex2 .ensures) (hex-next l i (c .before .before .before .before .before .before .before .before .before .before .before .loop-test .taken)))
+          (then (c .before .before .before .before .before .before .before .before .hex .result ∷ []) (c .before .before .before .hex2 .result ∷ []) o _ _ (c .before .before .before .before .before .before .before .put .ensures) (c .before .before .put2 .ensures))
+          (c .before .before .before .before .before .before .before .before .before .before .before .before .loop .inv .2),
+    )
 
 same-length : tie.Need-same-length Inv-loop μ-loop
 same-length c = c .before .loop .inv .1
