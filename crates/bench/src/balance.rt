@@ -75,7 +75,7 @@ fn told(address: u8, slot: u8, data: bool, telegram: Telegram) -> Answer {
 }
 
 // To what was sent; in the second mode only slot 0 answers.
-pub fn answer(all: bool, t: Transmission) -> Answer {
+pub fn told_by(all: bool, t: Transmission) -> Answer {
     match t {
         Transmission::Nothing => silence(),
         Transmission::Control(_) => silence(),

@@ -22,17 +22,17 @@ use libc::STDIN_FILENO;
 use libc::STDOUT_FILENO;
 
 fn line(s: &[u8], out: &mut [u8]) -> usize {
-    let mode = lines::read::digits(s, 0, 1);
-    let balances = lines::read::number(s, mode.next, 32);
-    let rounds = lines::read::number(s, balances.next, 4294967295);
-    if lines::read::ends(s, rounds.next) {
+    let mode = fields::read::digits(s, 0, 1);
+    let balances = fields::read::small(s, mode.next, 32);
+    let rounds = fields::read::word(s, balances.next, 4294967295);
+    if fields::read::ends(s, rounds.next) {
         if 0 < balances.value {
             let h = rounds::run(mode.value == 0, balances.value, rounds.value);
-            let at = lines::write::number(out, 0, h);
-            return lines::write::put(out, at, b'\n');
+            let at = fields::write::number(out, 0, h as u64);
+            return fields::write::put(out, at, b'\n');
         }
     }
-    lines::answer::bare(out, 0, b'?')
+    answer_lines::bare(out, 0, b'?')
 }
 
 // The line without its newline.

@@ -1,19 +1,30 @@
 // The rounds of the bench.
+ghost use Prim.Native.Nat.{_<_};
 use crate::balance;
+use crate::balance::Answer;
 use crate::total;
 use master::unit::DpMaster;
 use peripheral_set::PeripheralHandle;
-use peripheral_set::SLOTS;
 
 // The unit and the sum so far.
 struct Bench {
     unit: DpMaster,
-    sum: u64,
+    sum: u32,
 }
 
 // The first byte of a number.
 fn low(n: u64) -> u8 {
     (n % 256) as u8
+}
+
+// The reply of a balance.
+fn answered(b: Bench, r: Answer, payload: &[u8], inputs: &mut [u8], diags: &mut [u8]) -> Bench {
+    let unit = b.unit;
+    let telegram = r.telegram;
+    let replied = unit.receive_reply(r.address, telegram, payload, inputs, diags);
+    let m = replied.master;
+    let sum = total::reply(b.sum, replied.answer);
+    Bench { unit: m, sum: sum }
 }
 
 // One turn, and the reply to it where there is one.
@@ -26,41 +37,39 @@ fn round(
     outputs: &[u8],
     diags: &mut [u8],
     buf: &mut [u8],
-) -> Bench {
+) -> Bench
+    requires { ⌜ c < 8589934592 ⌝ }
+{
     let unit = b.unit;
     let turn = unit.transmit_telegram(100 * (c + 1), false, setup, outputs, buf);
     let a = turn.answer;
     let t = a.transmission;
     let sum = total::turn(b.sum, a, buf);
     let m = turn.master;
-    let r = balance::answer(all, t);
+    let r = balance::told_by(all, t);
     if !r.answers {
         return Bench { unit: m, sum: sum };
     }
-    let telegram = r.telegram;
-    let replied = if r.data {
-        let payload = [low(c), low(c / 256), r.slot, 7];
-        m.receive_reply(r.address, telegram, &payload, inputs, diags)
-    } else {
-        let payload = [0x00, 0x0C, 0x00, 0x02, 0x12, 0x34];
-        m.receive_reply(r.address, telegram, &payload, inputs, diags)
-    };
-    let q = replied.master;
-    let more = total::reply(sum, replied.answer);
-    Bench { unit: q, sum: more }
+    let next = Bench { unit: m, sum: sum };
+    if r.data {
+        let image = [low(c), low(c / 256), r.slot, 7];
+        return answered(next, r, &image, inputs, diags);
+    }
+    let diagnosis = [0x00u8, 0x0C, 0x00, 0x02, 0x12, 0x34];
+    answered(next, r, &diagnosis, inputs, diags)
 }
 
 // So many balances.
 fn added(
     unit: DpMaster,
-    n: u64,
+    n: u8,
     setup: &mut [u8],
     inputs: &mut [u8],
     outputs: &mut [u8],
     diags: &mut [u8],
 ) -> DpMaster {
-    let user = [0, 1, 2];
-    let config = [0x13, 0x23];
+    let user = [0u8, 1, 2];
+    let config = [0x13u8, 0x23];
     let mut m = unit;
     let mut address: u8 = 3;
     let mut left = n;
@@ -84,7 +93,7 @@ fn added(
 }
 
 // The input images.
-fn images(unit: DpMaster, h: u64, n: u64, inputs: &[u8]) -> u64 {
+fn images(unit: DpMaster, h: u32, n: u8, inputs: &[u8]) -> u32 {
     let mut sum = h;
     let mut slot: u8 = 0;
     let mut left = n;
@@ -103,7 +112,7 @@ fn images(unit: DpMaster, h: u64, n: u64, inputs: &[u8]) -> u64 {
 }
 
 // The sum over all rounds.
-pub fn run(all: bool, balances: u64, rounds: u64) -> u64 {
+pub fn run(all: bool, balances: u8, rounds: u32) -> u32 {
     let mut setup_array = [0u8; 16384];
     let mut input_array = [0u8; 16384];
     let mut output_array = [0u8; 16384];
@@ -120,7 +129,7 @@ pub fn run(all: bool, balances: u64, rounds: u64) -> u64 {
         unit: unit.enter_operate(),
         sum: 1,
     };
-    let count = 16 * balances + 16 + rounds;
+    let count = 16 * (balances as u64) + 16 + rounds as u64;
     let mut c: u64 = 0;
     while c < count {
         b = round(b, all, c, setup, inputs, outputs, diags, buf);

@@ -4,23 +4,24 @@ use answers::turn::Transmission;
 use answers::turn::TurnAnswer;
 use fdl::telegram::DataTelegramHeader;
 
-fn mix(h: u64, n: u64) -> u64 {
-    (h * 256 + n) % 1000000007
+// One number more.
+fn mix(h: u32, n: u32) -> u32 {
+    ((h as u64 * 256 + n as u64) % 1000000007) as u32
 }
 
-fn w8(n: u8) -> u64 {
-    n as u64
+fn w8(n: u8) -> u32 {
+    n as u32
 }
 
-fn w32(n: u32) -> u64 {
-    n as u64
-}
-
-fn one(b: bool) -> u64 {
+fn one(b: bool) -> u32 {
     if b { 1 } else { 0 }
 }
 
-pub fn bytes(h: u64, list: &[u8]) -> u64 {
+fn low(n: usize) -> u32 {
+    (n % 4294967296) as u32
+}
+
+pub fn bytes(h: u32, list: &[u8]) -> u32 {
     let mut sum = h;
     let mut i = 0;
     while i < list.len() {
@@ -30,7 +31,7 @@ pub fn bytes(h: u64, list: &[u8]) -> u64 {
     sum
 }
 
-fn header(h: u64, d: DataTelegramHeader, to: u8, payload: &[u8]) -> u64 {
+fn header(h: u32, d: DataTelegramHeader, to: u8, payload: &[u8]) -> u32 {
     let dsap = d.dsap;
     let ssap = d.ssap;
     let fcb = d.fcb;
@@ -46,16 +47,16 @@ fn header(h: u64, d: DataTelegramHeader, to: u8, payload: &[u8]) -> u64 {
     bytes(sum, payload)
 }
 
-pub fn turn(h: u64, a: TurnAnswer, buf: &[u8]) -> u64 {
+pub fn turn(h: u32, a: TurnAnswer, buf: &[u8]) -> u32 {
     let event = a.event;
     let handle = a.handle;
     let t = a.transmission;
     let mut sum = mix(h, w8(a.refusal));
     sum = mix(sum, one(a.cycle_completed));
-    sum = mix(sum, w32(a.offline));
+    sum = mix(sum, a.offline);
     sum = mix(sum, w8(event.number()));
     sum = mix(sum, w8(handle.slot));
-    sum = mix(sum, a.len as u64);
+    sum = mix(sum, low(a.len));
     let payload = parts::part(buf, 0, a.len);
     match t {
         Transmission::Nothing => mix(sum, 0),
@@ -68,7 +69,7 @@ pub fn turn(h: u64, a: TurnAnswer, buf: &[u8]) -> u64 {
     }
 }
 
-pub fn reply(h: u64, a: ReplyAnswer) -> u64 {
+pub fn reply(h: u32, a: ReplyAnswer) -> u32 {
     let event = a.event;
     let handle = a.handle;
     let mut sum = mix(h, w8(a.refusal));

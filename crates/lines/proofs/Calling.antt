@@ -3,9 +3,9 @@ use mathlib.Core.Path.{_≡_, refl, sym, ap, _∙_}
 use mathlib.Core.List.{List, []}
 use Prim.Native.Nat.{ℕ}
 use lib.ListN.{getD}
-use Rattle.lines.specs.declared.call.Call.{Call}
-use Rattle.lines.specs.declared.call.Call.the-variants.{Unknown}
-use Rattle.lines.specs.Read.{front}
+use Rattle.lines.specs.declared.Call.{Call}
+use Rattle.lines.specs.declared.Call.the-variants.{Unknown}
+use Rattle.fields.specs.Read.{front}
 use Rattle.lines.specs.Call.{AddRead, ReplyRead, WriteRead, callFor, firstFor, secondFor, ReadFor, CallRead}
 
 module _ (s a b : List ℕ) where

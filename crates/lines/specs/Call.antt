@@ -13,14 +13,14 @@ use Rattle.fdl.specs.Sap.{sapOf}
 use Rattle.cycle.specs.State.{operatingOf}
 use Rattle.master.specs.declared.add.Addition.{Addition}
 use Rattle.peripheral_set.specs.declared.PeripheralHandle.{PeripheralHandle}
-use Rattle.lines.specs.declared.read.Cursor.{Cursor}
-use Rattle.lines.specs.declared.call.Lent.{Lent}
-use Rattle.lines.specs.declared.call.Held.{Held}
-use Rattle.lines.specs.declared.call.AddHead.{AddHead}
-use Rattle.lines.specs.declared.call.AddTail.{AddTail}
-use Rattle.lines.specs.declared.call.Call.{Call}
-use Rattle.lines.specs.declared.call.Call.the-variants.{Unknown, New, Lend, FillPools, FillPayload, Add, State, Turn, Reply, Reset, Wish, Write, Inputs, Outputs, Diagnosis, Listing, Dump, Payload}
-use Rattle.lines.specs.Read.{right, endsAt, numberAt, bytesAt, pairsAt, setupAt, setupBytes, front}
+use Rattle.fields.specs.declared.read.Cursor.{Cursor}
+use Rattle.lines.specs.declared.Lent.{Lent}
+use Rattle.lines.specs.declared.Held.{Held}
+use Rattle.lines.specs.declared.AddHead.{AddHead}
+use Rattle.lines.specs.declared.AddTail.{AddTail}
+use Rattle.lines.specs.declared.Call.{Call}
+use Rattle.lines.specs.declared.Call.the-variants.{Unknown, New, Lend, FillPools, FillPayload, Add, State, Turn, Reply, Reset, Wish, Write, Inputs, Outputs, Diagnosis, Listing, Dump, Payload}
+use Rattle.fields.specs.Read.{right, endsAt, numberAt, bytesAt, pairsAt, setupAt, setupBytes, front}
 
 -- ---- the fields of a line
 

@@ -1,5 +1,1 @@
-pub mod Write
-pub mod Read
 pub mod Call
-pub mod Answer
-pub mod Dump

@@ -1,11 +1,14 @@
 // The calls of a script on the unit, each lent the first so many bytes of the arrays.
+ghost use mathlib.Core.Path.{_≡_};
+ghost use lib.ListN.{length, replicate};
 use cycle::state::OperatingState;
+use dump::Sums;
 use fdl::parameters::Parameters;
 use fdl::telegram::Telegram;
-use lines::answer;
-use lines::call::Lent;
-use lines::dump::Sums;
+use lines::Lent;
+use master::add::Added;
 use master::add::Addition;
+use master::turn::Turn;
 use master::unit::DpMaster;
 use peripheral_set::Entry;
 use peripheral_set::PeripheralHandle;
@@ -85,11 +88,59 @@ impl Run {
 }
 
 // All bytes become `b`.
-fn fill(dst: &mut [u8], b: u8) {
+fn fill(dst: &mut [u8], b: u8)
+    ensures { λ _. ⌜ now (dst .exit) ≡ replicate (length (now (dst .entry))) b ⌝ }
+{
     let mut i = 0;
     while i < dst.len() {
         dst[i] = b;
         i += 1;
+    }
+}
+
+// All bytes of the four pool arrays become `b`.
+fn fill_four(
+    b: u8,
+    setup: &mut [u8],
+    inputs: &mut [u8],
+    outputs: &mut [u8],
+    diags: &mut [u8],
+) {
+    fill(setup, b);
+    fill(inputs, b);
+    fill(outputs, b);
+    fill(diags, b);
+}
+
+// All arrays become zero.
+fn clear(
+    setup: &mut [u8],
+    inputs: &mut [u8],
+    outputs: &mut [u8],
+    diags: &mut [u8],
+    payload: &mut [u8],
+    list: &mut [u8],
+) {
+    fill_four(0, setup, inputs, outputs, diags);
+    fill(payload, 0);
+    fill(list, 0);
+}
+
+// The unit and the lent lengths of an N.
+fn made(p: Parameters, out: &mut [u8], at: usize) -> Step {
+    let made = DpMaster::new(p);
+    let unit = made.master;
+    let lent = lent_of(p, made.refusal);
+    let next = answer_lines::numbered(out, at, b'N', wide(made.refusal));
+    let run = Run {
+        unit: unit,
+        made: true,
+        own: lent,
+        lent: lent,
+    };
+    Step {
+        run: run,
+        at: next,
     }
 }
 
@@ -105,30 +156,15 @@ pub fn new(
     out: &mut [u8],
     at: usize,
 ) -> Step {
-    fill(setup, 0);
-    fill(inputs, 0);
-    fill(outputs, 0);
-    fill(diags, 0);
-    fill(payload, 0);
-    fill(list, 0);
-    let made = DpMaster::new(p);
-    let unit = made.master;
-    let lent = lent_of(p, made.refusal);
-    let next = answer::numbered(out, at, b'N', wide(made.refusal));
-    let run = Run {
-        unit: unit,
-        made: true,
-        own: lent,
-        lent: lent,
-    };
-    Step { run: run, at: next }
+    clear(setup, inputs, outputs, diags, payload, list);
+    made(p, out, at)
 }
 
 // L.
 pub fn lend(run: Run, lent: Lent, out: &mut [u8], at: usize) -> Step {
     let mut r = run;
     r.lent = lent;
-    let next = answer::bare(out, at, b'L');
+    let next = answer_lines::bare(out, at, b'L');
     Step { run: r, at: next }
 }
 
@@ -143,22 +179,24 @@ pub fn fill_pools(
     out: &mut [u8],
     at: usize,
 ) -> Step {
-    fill(setup, b);
-    fill(inputs, b);
-    fill(outputs, b);
-    fill(diags, b);
-    let next = answer::bare(out, at, b'P');
+    fill_four(b, setup, inputs, outputs, diags);
+    let next = answer_lines::bare(out, at, b'P');
     Step { run: run, at: next }
+}
+
+// The third byte of each entry becomes `b`.
+fn fill_third(list: &mut [u8], b: u8) {
+    let mut i = 2;
+    while i < list.len() {
+        list[i] = b;
+        i += 3;
+    }
 }
 
 // Each entry becomes (b, b, b mod 2).
 fn fill_list(list: &mut [u8], b: u8) {
     fill(list, b);
-    let mut i = 2;
-    while i < list.len() {
-        list[i] = b % 2;
-        i += 3;
-    }
+    fill_third(list, b % 2);
 }
 
 // F.
@@ -172,8 +210,42 @@ pub fn fill_payload(
 ) -> Step {
     fill(payload, b);
     fill_list(list, b);
-    let next = answer::bare(out, at, b'F');
+    let next = answer_lines::bare(out, at, b'F');
     Step { run: run, at: next }
+}
+
+// The add itself.
+fn lent_add(
+    run: Run,
+    addition: Addition,
+    user: &[u8],
+    config: &[u8],
+    setup: &mut [u8],
+    inputs: &mut [u8],
+    outputs: &mut [u8],
+    diags: &mut [u8],
+) -> Added {
+    let unit = run.unit;
+    let lent = run.lent;
+    unit.add(
+        addition,
+        user,
+        config,
+        parts::part_mut(setup, 0, parts::place(lent.setup)),
+        parts::part_mut(inputs, 0, parts::place(lent.inputs)),
+        parts::part_mut(outputs, 0, parts::place(lent.outputs)),
+        parts::part_mut(diags, 0, parts::place(lent.diags)),
+    )
+}
+
+// What an add answers.
+fn add_answer(run: Run, added: Added, out: &mut [u8], at: usize) -> Step {
+    let next = answer_lines::added(out, at, added.refusal, added.handle);
+    let m = added.master;
+    Step {
+        run: run.after(m),
+        at: next,
+    }
 }
 
 // A.
@@ -189,34 +261,39 @@ pub fn add(
     out: &mut [u8],
     at: usize,
 ) -> Step {
-    let unit = run.unit;
-    let lent = run.lent;
-    let added = unit.add(
-        addition,
-        user,
-        config,
-        parts::part_mut(setup, 0, parts::place(lent.setup)),
-        parts::part_mut(inputs, 0, parts::place(lent.inputs)),
-        parts::part_mut(outputs, 0, parts::place(lent.outputs)),
-        parts::part_mut(diags, 0, parts::place(lent.diags)),
-    );
-    let next = answer::added(out, at, added.refusal, added.handle);
-    let m = added.master;
-    Step {
-        run: run.after(m),
-        at: next,
-    }
+    let added = lent_add(run, addition, user, config, setup, inputs, outputs, diags);
+    add_answer(run, added, out, at)
 }
 
 // S.
 pub fn state(run: Run, state: OperatingState, out: &mut [u8], at: usize) -> Step {
     let unit = run.unit;
     let m = unit.enter_state(state);
-    let next = answer::numbered(out, at, b'S', 0);
+    let next = answer_lines::numbered(out, at, b'S', 0);
     Step {
         run: run.after(m),
         at: next,
     }
+}
+
+// The turn itself.
+fn lent_turn(
+    run: Run,
+    time: u64,
+    high_prio_only: bool,
+    setup: &[u8],
+    outputs: &[u8],
+    payload: &mut [u8],
+) -> Turn {
+    let unit = run.unit;
+    let lent = run.lent;
+    unit.transmit_telegram(
+        time,
+        high_prio_only,
+        parts::part(setup, 0, parts::place(lent.setup)),
+        parts::part(outputs, 0, parts::place(lent.outputs)),
+        parts::part_mut(payload, 0, parts::place(lent.payload)),
+    )
 }
 
 // T.
@@ -230,18 +307,10 @@ pub fn turn(
     out: &mut [u8],
     at: usize,
 ) -> Step {
-    let unit = run.unit;
-    let lent = run.lent;
-    let turn = unit.transmit_telegram(
-        time,
-        high_prio_only,
-        parts::part(setup, 0, parts::place(lent.setup)),
-        parts::part(outputs, 0, parts::place(lent.outputs)),
-        parts::part_mut(payload, 0, parts::place(lent.payload)),
-    );
-    let a = turn.answer;
-    let next = answer::turn(out, at, a, parts::part(payload, 0, a.len));
-    let m = turn.master;
+    let made = lent_turn(run, time, high_prio_only, setup, outputs, payload);
+    let a = made.answer;
+    let next = answer_lines::turn(out, at, a, parts::part(payload, 0, a.len));
+    let m = made.master;
     Step {
         run: run.after(m),
         at: next,
@@ -268,7 +337,7 @@ pub fn reply(
         parts::part_mut(inputs, 0, parts::place(lent.inputs)),
         parts::part_mut(diags, 0, parts::place(lent.diags)),
     );
-    let next = answer::reply(out, at, answered.answer);
+    let next = answer_lines::reply(out, at, answered.answer);
     let m = answered.master;
     Step {
         run: run.after(m),
@@ -280,7 +349,7 @@ pub fn reply(
 pub fn reset(run: Run, handle: PeripheralHandle, address: u8, out: &mut [u8], at: usize) -> Step {
     let unit = run.unit;
     let done = unit.reset_address(handle, address);
-    let next = answer::numbered(out, at, b'X', wide(done.refusal));
+    let next = answer_lines::numbered(out, at, b'X', wide(done.refusal));
     let m = done.master;
     Step {
         run: run.after(m),
@@ -292,7 +361,7 @@ pub fn reset(run: Run, handle: PeripheralHandle, address: u8, out: &mut [u8], at
 pub fn wish(run: Run, handle: PeripheralHandle, out: &mut [u8], at: usize) -> Step {
     let unit = run.unit;
     let done = unit.request_diagnostics(handle);
-    let next = answer::numbered(out, at, b'Q', wide(done.refusal));
+    let next = answer_lines::numbered(out, at, b'Q', wide(done.refusal));
     let m = done.master;
     Step {
         run: run.after(m),
@@ -317,7 +386,7 @@ pub fn write(
         bytes,
         parts::part_mut(outputs, 0, parts::place(lent.outputs)),
     );
-    let next = answer::numbered(out, at, b'W', wide(refusal));
+    let next = answer_lines::numbered(out, at, b'W', wide(refusal));
     Step {
         run: run.kept(),
         at: next,
@@ -337,7 +406,7 @@ pub fn inputs(
     let pool = parts::part(inputs, 0, parts::place(lent.inputs));
     let refusal = access::images::pi_i_refusal(unit, handle, pool);
     let part = access::images::pi_i(unit, handle, pool);
-    let next = answer::image(out, at, b'I', refusal, part);
+    let next = answer_lines::image(out, at, b'I', refusal, part);
     Step {
         run: run.kept(),
         at: next,
@@ -357,7 +426,7 @@ pub fn outputs(
     let pool = parts::part(outputs, 0, parts::place(lent.outputs));
     let refusal = access::images::pi_q_refusal(unit, handle, pool);
     let part = access::images::pi_q(unit, handle, pool);
-    let next = answer::image(out, at, b'O', refusal, part);
+    let next = answer_lines::image(out, at, b'O', refusal, part);
     Step {
         run: run.kept(),
         at: next,
@@ -377,7 +446,7 @@ pub fn diagnosis(
     let pool = parts::part(diags, 0, parts::place(lent.diags));
     let last = access::diagnosis::last_diagnostics(unit, handle, pool);
     let part = access::diagnosis::extended_diagnostics(unit, handle, pool);
-    let next = answer::diagnosis(out, at, last.refusal, last.value, part);
+    let next = answer_lines::diagnosis(out, at, last.refusal, last.value, part);
     Step {
         run: run.kept(),
         at: next,
@@ -397,28 +466,33 @@ fn put_entry(list: &mut [u8], k: usize, e: Entry) {
 
 // The listing goes into the list, three bytes an entry; answers how many bytes.
 fn fill_entries(unit: DpMaster, list: &mut [u8]) -> usize {
-    let n = access::listing::count(unit);
     let mut k = 0;
-    while k < n {
-        put_entry(list, k, access::listing::entry(unit, k));
+    while k < SLOTS {
+        let e = access::listing::entry(unit, k);
+        if e.slot == 255 {
+            return 3 * k;
+        }
+        put_entry(list, k, e);
         k += 1;
     }
-    3 * n
+    3 * k
 }
 
 // H.
 pub fn listing(run: Run, list: &mut [u8], out: &mut [u8], at: usize) -> Step {
     let unit = run.unit;
     let lent = run.lent;
-    let mut refusal: u8 = 0;
-    let mut len = 0;
     if parts::place(lent.list) < SLOTS {
-        refusal = 2;
-    } else {
-        len = fill_entries(unit, list);
+        let all = &list[..];
+        let refused = answer_lines::listing(out, at, 2, parts::part(all, 0, 0), all);
+        return Step {
+            run: run.kept(),
+            at: refused,
+        };
     }
+    let len = fill_entries(unit, list);
     let all = &list[..];
-    let next = answer::listing(out, at, refusal, parts::part(all, 0, len), all);
+    let next = answer_lines::listing(out, at, 0, parts::part(all, 0, len), all);
     Step {
         run: run.kept(),
         at: next,
@@ -437,17 +511,17 @@ pub fn dump(
 ) -> Step {
     let unit = run.unit;
     let sums = Sums {
-        setup: lines::write::sum(setup),
-        inputs: lines::write::sum(inputs),
-        outputs: lines::write::sum(outputs),
-        diags: lines::write::sum(diags),
+        setup: fields::write::sum(setup),
+        inputs: fields::write::sum(inputs),
+        outputs: fields::write::sum(outputs),
+        diags: fields::write::sum(diags),
     };
-    let next = lines::dump::dump(out, at, unit, sums);
+    let next = dump::line(out, at, unit, sums);
     Step { run: run, at: next }
 }
 
 // B.
 pub fn payload(run: Run, payload: &[u8], out: &mut [u8], at: usize) -> Step {
-    let next = answer::numbered(out, at, b'B', lines::write::sum(payload));
+    let next = answer_lines::numbered(out, at, b'B', fields::write::sum(payload));
     Step { run: run, at: next }
 }

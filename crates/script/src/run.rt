@@ -2,13 +2,17 @@
 use crate::calls;
 use crate::calls::Run;
 use crate::calls::Step;
-use lines::answer;
-use lines::call::Call;
+use lines::Call;
 
 // A line that is no call changes nothing.
 fn unknown(run: Run, out: &mut [u8], at: usize) -> Step {
-    let next = answer::bare(out, at, b'?');
+    let next = answer_lines::bare(out, at, b'?');
     Step { run: run, at: next }
+}
+
+// The first bytes of an array.
+fn front(a: &[u8; 255], len: usize) -> &[u8] {
+    parts::part(a, 0, len)
 }
 
 // The line `s`, of which only the first part came where it was too long.
@@ -30,7 +34,7 @@ pub fn line(
     }
     let mut a = [0u8; 255];
     let mut b = [0u8; 255];
-    let call = lines::call::parse(s, &mut a, &mut b);
+    let call = lines::parse(s, &mut a, &mut b);
     if let Call::New(p) = call {
         return calls::new(p, setup, inputs, outputs, diags, payload, list, out, at);
     }
@@ -48,8 +52,8 @@ pub fn line(
             user,
             config,
         } => {
-            let first = parts::part(&a, 0, user);
-            let second = parts::part(&b, 0, config);
+            let first = front(&a, user);
+            let second = front(&b, config);
             calls::add(
                 run,
                 addition,
@@ -76,7 +80,7 @@ pub fn line(
             run,
             address,
             telegram,
-            parts::part(&a, 0, len),
+            front(&a, len),
             inputs,
             diags,
             out,
@@ -85,7 +89,7 @@ pub fn line(
         Call::Reset { handle, address } => calls::reset(run, handle, address, out, at),
         Call::Wish(handle) => calls::wish(run, handle, out, at),
         Call::Write { handle, len } => {
-            calls::write(run, handle, parts::part(&a, 0, len), outputs, out, at)
+            calls::write(run, handle, front(&a, len), outputs, out, at)
         }
         Call::Inputs(handle) => calls::inputs(run, handle, inputs, out, at),
         Call::Outputs(handle) => calls::outputs(run, handle, outputs, out, at),
