@@ -9,3 +9,7 @@ pub mod Cycle
 pub mod Answers
 pub mod Master
 pub mod Access
+pub mod Fields
+pub mod Lines
+pub mod AnswerLines
+pub mod Dump

@@ -1,0 +1,112 @@
+// The balances of the bench: how each is set up, and what it answers.
+use answers::turn::Transmission;
+use fdl::consts::Sap;
+use fdl::parameters::Parameters;
+use fdl::telegram::Telegram;
+use master::add::Addition;
+use telegrams::options::PeripheralOptions;
+use telegrams::request::Request;
+
+pub fn parameters() -> Parameters {
+    Parameters {
+        slot_time: 200,
+        setup_pool: 16384,
+        input_pool: 16384,
+        output_pool: 16384,
+        diag_pool: 16384,
+        address: 2,
+        max_retry_limit: 1,
+        watchdog: false,
+        watchdog_first: 0,
+        watchdog_second: 0,
+        min_tsdr_bits: 11,
+    }
+}
+
+pub fn addition(address: u8) -> Addition {
+    let options = PeripheralOptions {
+        ident_number: 0x1234,
+        max_tsdr: 0,
+        groups: 0,
+        sync_mode: false,
+        freeze_mode: false,
+        fail_safe: false,
+        has_user_parameters: true,
+        user_parameters: 0,
+        has_config: true,
+        config: 0,
+    };
+    Addition {
+        address: address,
+        options: options,
+        input_len: 4,
+        output_len: 4,
+        room: 16,
+    }
+}
+
+// What a balance answers: the telegram, the address it comes from, and how many bytes of the payload; `answers` is false where it says nothing.
+pub struct Answer {
+    pub answers: bool,
+    pub address: u8,
+    pub slot: u8,
+    pub data: bool,
+    pub telegram: Telegram,
+}
+
+fn silence() -> Answer {
+    Answer {
+        answers: false,
+        address: 0,
+        slot: 0,
+        data: false,
+        telegram: Telegram::ShortConfirmation,
+    }
+}
+
+fn told(address: u8, slot: u8, data: bool, telegram: Telegram) -> Answer {
+    Answer {
+        answers: true,
+        address: address,
+        slot: slot,
+        data: data,
+        telegram: telegram,
+    }
+}
+
+// To what was sent; in the second mode only slot 0 answers.
+pub fn told_by(all: bool, t: Transmission) -> Answer {
+    match t {
+        Transmission::Nothing => silence(),
+        Transmission::Control(_) => silence(),
+        Transmission::Request { slot, kind, header } => {
+            if !all {
+                if slot != 0 {
+                    return silence();
+                }
+            }
+            match kind {
+                Request::Diagnosis => {
+                    let telegram = Telegram::Data {
+                        dsap: Sap::At(62),
+                        ssap: Sap::At(60),
+                        status: 8,
+                    };
+                    told(header.da, slot, false, telegram)
+                }
+                Request::Parameters => told(header.da, slot, false, Telegram::ShortConfirmation),
+                Request::Configuration => {
+                    told(header.da, slot, false, Telegram::ShortConfirmation)
+                }
+                Request::Data => {
+                    let telegram = Telegram::Data {
+                        dsap: Sap::Absent,
+                        ssap: Sap::Absent,
+                        status: 8,
+                    };
+                    told(header.da, slot, true, telegram)
+                }
+            }
+        }
+    }
+}
