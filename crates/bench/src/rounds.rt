@@ -59,34 +59,40 @@ fn round(
     answered(next, r, &diagnosis, inputs, diags)
 }
 
-// So many balances.
+// The next number, up to 125.
+fn following(n: u8) -> u8 {
+    if n < 125 {
+        return n + 1;
+    }
+    125
+}
+
+// So many balances, from address 3 on.
 fn added(
     unit: DpMaster,
     n: u8,
+    user: &[u8],
+    config: &[u8],
     setup: &mut [u8],
     inputs: &mut [u8],
     outputs: &mut [u8],
     diags: &mut [u8],
 ) -> DpMaster {
-    let user = [0u8, 1, 2];
-    let config = [0x13u8, 0x23];
     let mut m = unit;
     let mut address: u8 = 3;
     let mut left = n;
     while left > 0 {
         let a = m.add(
             balance::addition(address),
-            &user,
-            &config,
+            user,
+            config,
             setup,
             inputs,
             outputs,
             diags,
         );
         m = a.master;
-        if address < 125 {
-            address += 1;
-        }
+        address = following(address);
         left -= 1;
     }
     m
@@ -103,37 +109,87 @@ fn images(unit: DpMaster, h: u32, n: u8, inputs: &[u8]) -> u32 {
             address: 0,
         };
         sum = total::bytes(sum, access::images::pi_i(unit, handle, inputs));
-        if slot < 32 {
-            slot += 1;
-        }
+        slot = following(slot);
         left -= 1;
     }
     sum
 }
 
-// The sum over all rounds.
-pub fn run(all: bool, balances: u8, rounds: u32) -> u32 {
-    let mut setup_array = [0u8; 16384];
-    let mut input_array = [0u8; 16384];
-    let mut output_array = [0u8; 16384];
-    let mut diag_array = [0u8; 16384];
-    let mut buf_array = [0u8; 255];
-    let setup: &mut [u8] = &mut setup_array;
-    let inputs: &mut [u8] = &mut input_array;
-    let outputs: &mut [u8] = &mut output_array;
-    let diags: &mut [u8] = &mut diag_array;
-    let buf: &mut [u8] = &mut buf_array;
-    let made = DpMaster::new(balance::parameters());
-    let unit = added(made.master, balances, setup, inputs, outputs, diags);
-    let mut b = Bench {
-        unit: unit.enter_operate(),
-        sum: 1,
-    };
-    let count = 16 * (balances as u64) + 16 + rounds as u64;
+// So many rounds.
+fn looped(
+    unit: DpMaster,
+    all: bool,
+    count: u64,
+    setup: &[u8],
+    inputs: &mut [u8],
+    outputs: &[u8],
+    diags: &mut [u8],
+    buf: &mut [u8],
+) -> Bench
+    requires { ⌜ count < 8589934592 ⌝ }
+{
+    let mut b = Bench { unit: unit, sum: 1 };
     let mut c: u64 = 0;
     while c < count {
         b = round(b, all, c, setup, inputs, outputs, diags, buf);
         c += 1;
     }
+    b
+}
+
+// The balances are added, the rounds run, and the images summed.
+fn over(
+    all: bool,
+    balances: u8,
+    rounds: u32,
+    setup: &mut [u8],
+    inputs: &mut [u8],
+    outputs: &mut [u8],
+    diags: &mut [u8],
+    buf: &mut [u8],
+) -> u32 {
+    let made = DpMaster::new(balance::parameters());
+    let user = [0u8, 1, 2];
+    let config = [0x13u8, 0x23];
+    let unit = added(
+        made.master,
+        balances,
+        &user,
+        &config,
+        setup,
+        inputs,
+        outputs,
+        diags,
+    );
+    let count = 16 * (balances as u64) + 16 + rounds as u64;
+    let b = looped(
+        unit.enter_operate(),
+        all,
+        count,
+        setup,
+        inputs,
+        outputs,
+        diags,
+        buf,
+    );
     images(b.unit, b.sum, balances, inputs)
+}
+
+// The sum over all rounds.
+pub fn run(all: bool, balances: u8, rounds: u32) -> u32 {
+    let mut setup = [0u8; 16384];
+    let mut inputs = [0u8; 16384];
+    let mut outputs = [0u8; 16384];
+    let mut diags = [0u8; 16384];
+    let mut buf = [0u8; 255];
+    over(
+        all,
+        balances,
+        rounds,
+        &mut setup,
+        &mut inputs,
+        &mut outputs,
+        &mut diags,
+        &mut buf,
+    )
 }
