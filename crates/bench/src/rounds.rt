@@ -3,6 +3,7 @@ ghost use Prim.Native.Nat.{_<_};
 use crate::balance;
 use crate::balance::Answer;
 use crate::total;
+use answers::turn::Transmission;
 use master::unit::DpMaster;
 use peripheral_set::PeripheralHandle;
 
@@ -27,6 +28,37 @@ fn answered(b: Bench, r: Answer, payload: &[u8], inputs: &mut [u8], diags: &mut 
     Bench { unit: m, sum: sum }
 }
 
+// The reply of a balance, with the payload that belongs to it.
+fn replied(b: Bench, r: Answer, c: u64, inputs: &mut [u8], diags: &mut [u8]) -> Bench {
+    if r.data {
+        let image = [low(c), low(c / 256), r.slot, 7];
+        return answered(b, r, &image, inputs, diags);
+    }
+    let diagnosis = [0x00u8, 0x0C, 0x00, 0x02, 0x12, 0x34];
+    answered(b, r, &diagnosis, inputs, diags)
+}
+
+// After a turn: the unit and the sum, and what was sent.
+struct AfterTurn {
+    bench: Bench,
+    transmission: Transmission,
+}
+
+// One turn.
+fn turned(b: Bench, time: u64, setup: &[u8], outputs: &[u8], buf: &mut [u8]) -> AfterTurn {
+    let unit = b.unit;
+    let turn = unit.transmit_telegram(time, false, setup, outputs, buf);
+    let a = turn.answer;
+    let t = a.transmission;
+    let sum = total::turn(b.sum, a, buf);
+    let m = turn.master;
+    let bench = Bench { unit: m, sum: sum };
+    AfterTurn {
+        bench: bench,
+        transmission: t,
+    }
+}
+
 // One turn, and the reply to it where there is one.
 fn round(
     b: Bench,
@@ -40,23 +72,13 @@ fn round(
 ) -> Bench
     requires { ⌜ c < 8589934592 ⌝ }
 {
-    let unit = b.unit;
-    let turn = unit.transmit_telegram(100 * (c + 1), false, setup, outputs, buf);
-    let a = turn.answer;
-    let t = a.transmission;
-    let sum = total::turn(b.sum, a, buf);
-    let m = turn.master;
-    let r = balance::told_by(all, t);
-    if !r.answers {
-        return Bench { unit: m, sum: sum };
+    let t = turned(b, 100 * (c + 1), setup, outputs, buf);
+    let next = t.bench;
+    let r = balance::told_by(all, t.transmission);
+    if r.answers {
+        return replied(next, r, c, inputs, diags);
     }
-    let next = Bench { unit: m, sum: sum };
-    if r.data {
-        let image = [low(c), low(c / 256), r.slot, 7];
-        return answered(next, r, &image, inputs, diags);
-    }
-    let diagnosis = [0x00u8, 0x0C, 0x00, 0x02, 0x12, 0x34];
-    answered(next, r, &diagnosis, inputs, diags)
+    next
 }
 
 // The next number, up to 125.
@@ -137,17 +159,21 @@ fn looped(
     b
 }
 
-// The balances are added, the rounds run, and the images summed.
-fn over(
-    all: bool,
+// How many rounds there are.
+fn count_of(balances: u8, rounds: u32) -> u64
+    ensures { λ r. ⌜ r < 8589934592 ⌝ }
+{
+    16 * (balances as u64) + 16 + rounds as u64
+}
+
+// A unit in Operate with so many balances.
+fn prepared(
     balances: u8,
-    rounds: u32,
     setup: &mut [u8],
     inputs: &mut [u8],
     outputs: &mut [u8],
     diags: &mut [u8],
-    buf: &mut [u8],
-) -> u32 {
+) -> DpMaster {
     let made = DpMaster::new(balance::parameters());
     let user = [0u8, 1, 2];
     let config = [0x13u8, 0x23];
@@ -161,17 +187,23 @@ fn over(
         outputs,
         diags,
     );
-    let count = 16 * (balances as u64) + 16 + rounds as u64;
-    let b = looped(
-        unit.enter_operate(),
-        all,
-        count,
-        setup,
-        inputs,
-        outputs,
-        diags,
-        buf,
-    );
+    unit.enter_operate()
+}
+
+// The balances are added, the rounds run, and the images summed.
+fn over(
+    all: bool,
+    balances: u8,
+    rounds: u32,
+    setup: &mut [u8],
+    inputs: &mut [u8],
+    outputs: &mut [u8],
+    diags: &mut [u8],
+    buf: &mut [u8],
+) -> u32 {
+    let unit = prepared(balances, setup, inputs, outputs, diags);
+    let count = count_of(balances, rounds);
+    let b = looped(unit, all, count, setup, inputs, outputs, diags, buf);
     images(b.unit, b.sum, balances, inputs)
 }
 

@@ -99,13 +99,7 @@ fn fill(dst: &mut [u8], b: u8)
 }
 
 // All bytes of the four pool arrays become `b`.
-fn fill_four(
-    b: u8,
-    setup: &mut [u8],
-    inputs: &mut [u8],
-    outputs: &mut [u8],
-    diags: &mut [u8],
-) {
+fn fill_four(b: u8, setup: &mut [u8], inputs: &mut [u8], outputs: &mut [u8], diags: &mut [u8]) {
     fill(setup, b);
     fill(inputs, b);
     fill(outputs, b);
@@ -138,10 +132,7 @@ fn made(p: Parameters, out: &mut [u8], at: usize) -> Step {
         own: lent,
         lent: lent,
     };
-    Step {
-        run: run,
-        at: next,
-    }
+    Step { run: run, at: next }
 }
 
 // N.

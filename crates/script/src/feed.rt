@@ -141,7 +141,17 @@ fn piece(
 ) -> Work {
     let p = append(w.filled, w.long, part, line);
     step(
-        w, p, ended, setup, inputs, outputs, diags, payload, list, line, out,
+        w,
+        p,
+        ended,
+        setup,
+        inputs,
+        outputs,
+        diags,
+        payload,
+        list,
+        line,
+        out,
     )
 }
 
@@ -239,7 +249,17 @@ fn next_chunk(
 ) -> Fed {
     let n = read_some(chunk);
     chunk_of(
-        w, n, setup, inputs, outputs, diags, payload, list, line, chunk, out,
+        w,
+        n,
+        setup,
+        inputs,
+        outputs,
+        diags,
+        payload,
+        list,
+        line,
+        chunk,
+        out,
     )
 }
 

@@ -7,10 +7,10 @@ use Rattle.bench.proofs.rounds.added.Statement.{statement}
 use Rattle.bench.proofs.rounds.added.Tie as tie
 
 abbrev Inv-loop : tie.InvT-loop
-Inv-loop unit n user config setup₀ inputs₀ outputs₀ diags₀ m₀ address₀ left₀ setup inputs outputs diags m address left = (length setup ≡ length setup₀) × (length inputs ≡ length inputs₀) × (length outputs ≡ length outputs₀) × (length diags ≡ length diags₀)
+Inv-loop n user config setup₀ inputs₀ outputs₀ diags₀ m₀ address₀ left₀ setup inputs outputs diags m address left = (length setup ≡ length setup₀) × (length inputs ≡ length inputs₀) × (length outputs ≡ length outputs₀) × (length diags ≡ length diags₀)
 
 abbrev μ-loop : tie.MeasureT-loop
-μ-loop unit n user config setup₀ inputs₀ outputs₀ diags₀ m₀ address₀ left₀ setup inputs outputs diags m address left = left
+μ-loop n user config setup₀ inputs₀ outputs₀ diags₀ m₀ address₀ left₀ setup inputs outputs diags m address left = left
 
 loop-holds : tie.Need-loop-holds Inv-loop μ-loop
 loop-holds c = omega arith

@@ -7,10 +7,10 @@ use Rattle.bench.proofs.rounds.looped.Statement.{statement}
 use Rattle.bench.proofs.rounds.looped.Tie as tie
 
 abbrev Inv-loop : tie.InvT-loop
-Inv-loop unit all count setup inputs₀ outputs diags₀ buf₀ b₀ c₀ inputs diags buf b c = (length inputs ≡ length inputs₀) × (length diags ≡ length diags₀) × (length buf ≡ length buf₀)
+Inv-loop all count setup inputs₀ outputs diags₀ buf₀ b₀ c₀ inputs diags buf b c = (length inputs ≡ length inputs₀) × (length diags ≡ length diags₀) × (length buf ≡ length buf₀)
 
 abbrev μ-loop : tie.MeasureT-loop
-μ-loop unit all count setup inputs₀ outputs diags₀ buf₀ b₀ c₀ inputs diags buf b c = count - c
+μ-loop all count setup inputs₀ outputs diags₀ buf₀ b₀ c₀ inputs diags buf b c = count - c
 
 loop-holds : tie.Need-loop-holds Inv-loop μ-loop
 loop-holds c = omega arith
