@@ -1,0 +1,1 @@
+// No code: what a writer of fields writes, the reader reads back.
