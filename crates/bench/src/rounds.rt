@@ -74,7 +74,8 @@ fn round(
 {
     let t = turned(b, 100 * (c + 1), setup, outputs, buf);
     let next = t.bench;
-    let r = balance::told_by(all, t.transmission);
+    let sent = t.transmission;
+    let r = balance::told_by(all, sent);
     if r.answers {
         return replied(next, r, c, inputs, diags);
     }
@@ -190,7 +191,24 @@ fn prepared(
     unit.enter_operate()
 }
 
-// The balances are added, the rounds run, and the images summed.
+// The rounds are run, and the images summed.
+fn summed(
+    unit: DpMaster,
+    all: bool,
+    balances: u8,
+    rounds: u32,
+    setup: &[u8],
+    inputs: &mut [u8],
+    outputs: &[u8],
+    diags: &mut [u8],
+    buf: &mut [u8],
+) -> u32 {
+    let count = count_of(balances, rounds);
+    let b = looped(unit, all, count, setup, inputs, outputs, diags, buf);
+    images(b.unit, b.sum, balances, inputs)
+}
+
+// The balances are added before.
 fn over(
     all: bool,
     balances: u8,
@@ -202,9 +220,17 @@ fn over(
     buf: &mut [u8],
 ) -> u32 {
     let unit = prepared(balances, setup, inputs, outputs, diags);
-    let count = count_of(balances, rounds);
-    let b = looped(unit, all, count, setup, inputs, outputs, diags, buf);
-    images(b.unit, b.sum, balances, inputs)
+    summed(
+        unit,
+        all,
+        balances,
+        rounds,
+        setup,
+        inputs,
+        outputs,
+        diags,
+        buf,
+    )
 }
 
 // The sum over all rounds.
