@@ -144,21 +144,16 @@ replyStep ok n is t payload ni nd w =
 abbrev pub doneStep : Done → World → Outcome
 doneStep d w = record { world = unitIs (d .master) w; answer = number (d .refusal) }
 
+abbrev pub outputsAre : List ℕ → World → World
+outputsAre q w = record { unit = w .unit; pools = record { setup = w .pools .setup; inputs = w .pools .inputs; outputs = q; diags = w .pools .diags } }
+
 -- bytes put into the output image of p
 abbrev pub writeStep : Bool → ℕ → Peripheral → List ℕ → ℕ → World → Outcome
 writeStep ok n p bytes nq w =
     record {
       world =
-          record {
-            unit = w .unit;
-            pools =
-                record {
-                  setup = w .pools .setup;
-                  inputs = w .pools .inputs;
-                  outputs = back nq (pick ok (putIn (p .ranges .outputs) (p .ranges .«output_len») bytes (lend nq (w .pools .outputs))) (lend nq (w .pools .outputs))) (w .pools .outputs);
-                  diags = w .pools .diags;
-                };
-          };
+          outputsAre (back nq (pick ok (putIn (p .ranges .outputs) (p .ranges .«output_len») bytes (lend nq (w .pools .outputs))) (lend nq (w .pools .outputs))) (w .pools .outputs))
+          w;
       answer = number n;
     }
 

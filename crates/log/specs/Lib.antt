@@ -1,6 +1,7 @@
 pub mod Calls
 pub mod Words
 pub mod Run
+pub mod Made
 pub mod Promises
 pub mod Life
 pub mod Wrong

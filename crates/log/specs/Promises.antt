@@ -18,8 +18,9 @@ use Rattle.master.specs.declared.unit.DpMaster.{DpMaster}
 use Rattle.access.specs.Lookup.{foundIn}
 use Rattle.valid.specs.Valid.{Valid, Apart, balance}
 use Rattle.log.specs.Calls.{Call, turn, turned, Pools, World, Outcome, accepted, refusal, lend, step}
-use Rattle.log.specs.Words.{turnOf, reportedOffline, slotLog, Frame, frameOf, occupiedIn, reached, imageOf, Due, Ready, asksData}
+use Rattle.log.specs.Words.{Entry, turnOf, reportedOffline, slotLog, Frame, frameOf, occupiedIn, reached, imageOf, Due, Ready, asksData}
 use Rattle.log.specs.Run.{runBy, run, acceptedOf}
+use Rattle.log.specs.Made.{Allowed, Made}
 
 -- ---- what is read of a unit
 
@@ -89,3 +90,13 @@ AlwaysValid = (u : Parameters) (pools : Pools) (cs : List Call) → Valid (run u
 abbrev pub NeverOverlap : Type 0
 NeverOverlap = (u : Parameters) (pools : Pools) (cs : List Call) (s t : ℕ) → T (occupiedIn (run u pools cs .log) s) → T (occupiedIn (run u pools cs .log) t)
     → (s ≡ t → ⊥) → Apart (balance (run u pools cs .world .unit) s) (balance (run u pools cs .world .unit) t)
+
+-- ---- how the functions stand to `step` and `run`
+
+-- whatever the contract of a function allows is what `step` says
+abbrev pub AllowedIsStep : Type 0
+AllowedIsStep = (w : World) (c : Call) (o : Outcome) → Allowed w c o → step w c ≡ o
+
+-- so whatever was made is a run, and every promise here is one of it
+abbrev pub MadeIsRun : Type 0
+MadeIsRun = (u : Parameters) (pools : Pools) (cs : List Call) (w : World) (l : List Entry) → Made u pools cs w l → run u pools cs ≡ record { world = w; log = l }
