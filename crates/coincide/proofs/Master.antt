@@ -1,6 +1,6 @@
 -- Any two results that a contract of `master` allows coincide: a statement for each public function.
 -- The idea: a contract is an equation for the answer and for each lent buffer, so two of them have the same right-hand side.
-use mathlib.Core.Path.{_≡_}
+use mathlib.Core.Path.{_≡_, refl}
 use denote.Ref.{now}
 use Rattle.coincide.specs.Coincide.{Coincide}
 use Rattle.coincide.proofs.Law.{same}
@@ -27,8 +27,8 @@ use Rattle.master.proofs.unit.DpMaster.enter_clear.Reads as R·unit-DpMaster-en
 use Rattle.master.proofs.unit.DpMaster.enter_operate.Kinds as K·unit-DpMaster-enter-operate
 use Rattle.master.proofs.unit.DpMaster.enter_operate.Reads as R·unit-DpMaster-enter-operate
 
-pub unit-DpMaster-add : Coincide 6 K·unit-DpMaster-add.ps K·unit-DpMaster-add.r R·unit-DpMaster-add.Learnt (λ κs z y e f. (z .refusal ≡ y .refusal) × (z .handle ≡ y .handle) × (z .master ≡ y .master) × (now (e .1 .1 .1 .1 .0) ≡ now (f .1 .1 .1 .1 .0)) × (now (e .1 .1 .1 .1 .1 .0) ≡ now (f .1 .1 .1 .1 .1 .0)) × (now (e .1 .1 .1 .1 .1 .1 .0) ≡ now (f .1 .1 .1 .1 .1 .1 .0)) × (now (e .1 .1 .1 .1 .1 .1 .1 .0) ≡ now (f .1 .1 .1 .1 .1 .1 .1 .0)))
-unit-DpMaster-add κs a z y e f p q = (same (p .refusal) (q .refusal), same (p .handle) (q .handle), same (p .after) (q .after), same (p .setupPool) (q .setupPool), same (p .inputPool) (q .inputPool), same (p .outputPool) (q .outputPool), same (p .diagPool) (q .diagPool))
+pub unit-DpMaster-add : Coincide 6 K·unit-DpMaster-add.ps K·unit-DpMaster-add.r R·unit-DpMaster-add.Learnt (λ κs z y e f. (z ≡ y) × (now (e .1 .1 .1 .1 .0) ≡ now (f .1 .1 .1 .1 .0)) × (now (e .1 .1 .1 .1 .1 .0) ≡ now (f .1 .1 .1 .1 .1 .0)) × (now (e .1 .1 .1 .1 .1 .1 .0) ≡ now (f .1 .1 .1 .1 .1 .1 .0)) × (now (e .1 .1 .1 .1 .1 .1 .1 .0) ≡ now (f .1 .1 .1 .1 .1 .1 .1 .0)))
+unit-DpMaster-add κs a z y e f p q = (rw (same (p .refusal) (q .refusal), same (p .handle) (q .handle), same (p .after) (q .after)) refl, same (p .setupPool) (q .setupPool), same (p .inputPool) (q .inputPool), same (p .outputPool) (q .outputPool), same (p .diagPool) (q .diagPool))
 
 pub unit-DpMaster-reset-address : Coincide 0 K·unit-DpMaster-reset-address.ps K·unit-DpMaster-reset-address.r R·unit-DpMaster-reset-address.Learnt (λ κs z y e f. z ≡ y)
 unit-DpMaster-reset-address κs a z y e f p q = same p q
@@ -36,11 +36,11 @@ unit-DpMaster-reset-address κs a z y e f p q = same p q
 pub unit-DpMaster-request-diagnostics : Coincide 0 K·unit-DpMaster-request-diagnostics.ps K·unit-DpMaster-request-diagnostics.r R·unit-DpMaster-request-diagnostics.Learnt (λ κs z y e f. z ≡ y)
 unit-DpMaster-request-diagnostics κs a z y e f p q = same p q
 
-pub unit-DpMaster-receive-reply : Coincide 3 K·unit-DpMaster-receive-reply.ps K·unit-DpMaster-receive-reply.r R·unit-DpMaster-receive-reply.Learnt (λ κs z y e f. (z .master ≡ y .master) × (z .answer ≡ y .answer) × (now (e .1 .1 .1 .1 .0) ≡ now (f .1 .1 .1 .1 .0)) × (now (e .1 .1 .1 .1 .1 .0) ≡ now (f .1 .1 .1 .1 .1 .0)))
-unit-DpMaster-receive-reply κs a z y e f p q = (same (p .after) (q .after), same (p .answer) (q .answer), same (p .inputPool) (q .inputPool), same (p .diagPool) (q .diagPool))
+pub unit-DpMaster-receive-reply : Coincide 3 K·unit-DpMaster-receive-reply.ps K·unit-DpMaster-receive-reply.r R·unit-DpMaster-receive-reply.Learnt (λ κs z y e f. (z ≡ y) × (now (e .1 .1 .1 .1 .0) ≡ now (f .1 .1 .1 .1 .0)) × (now (e .1 .1 .1 .1 .1 .0) ≡ now (f .1 .1 .1 .1 .1 .0)))
+unit-DpMaster-receive-reply κs a z y e f p q = (rw (same (p .after) (q .after), same (p .answer) (q .answer)) refl, same (p .inputPool) (q .inputPool), same (p .diagPool) (q .diagPool))
 
-pub unit-DpMaster-transmit-telegram : Coincide 3 K·unit-DpMaster-transmit-telegram.ps K·unit-DpMaster-transmit-telegram.r R·unit-DpMaster-transmit-telegram.Learnt (λ κs z y e f. (z .master ≡ y .master) × (z .answer ≡ y .answer) × (now (e .1 .1 .1 .1 .1 .0) ≡ now (f .1 .1 .1 .1 .1 .0)))
-unit-DpMaster-transmit-telegram κs a z y e f p q = (same (p .after) (q .after), same (p .answer) (q .answer), same (p .bytes) (q .bytes))
+pub unit-DpMaster-transmit-telegram : Coincide 3 K·unit-DpMaster-transmit-telegram.ps K·unit-DpMaster-transmit-telegram.r R·unit-DpMaster-transmit-telegram.Learnt (λ κs z y e f. (z ≡ y) × (now (e .1 .1 .1 .1 .1 .0) ≡ now (f .1 .1 .1 .1 .1 .0)))
+unit-DpMaster-transmit-telegram κs a z y e f p q = (rw (same (p .after) (q .after), same (p .answer) (q .answer)) refl, same (p .bytes) (q .bytes))
 
 pub unit-DpMaster-new : Coincide 0 K·unit-DpMaster-new.ps K·unit-DpMaster-new.r R·unit-DpMaster-new.Learnt (λ κs z y e f. z ≡ y)
 unit-DpMaster-new κs a z y e f p q = same p q

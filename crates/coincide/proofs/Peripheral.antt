@@ -1,6 +1,6 @@
 -- Any two results that a contract of `peripheral` allows coincide: a statement for each public function.
 -- The idea: a contract is an equation for the answer and for each lent buffer, so two of them have the same right-hand side.
-use mathlib.Core.Path.{_≡_}
+use mathlib.Core.Path.{_≡_, refl}
 use denote.Ref.{now}
 use Rattle.coincide.specs.Coincide.{Coincide}
 use Rattle.coincide.proofs.Law.{same}
@@ -84,8 +84,8 @@ record-Peripheral-pi-q κs a z y e f p q = same p q
 pub record-Peripheral-pi-q-mut : Coincide 1 K·record-Peripheral-pi-q-mut.ps K·record-Peripheral-pi-q-mut.r R·record-Peripheral-pi-q-mut.Learnt (λ κs z y e f. now z ≡ now y)
 record-Peripheral-pi-q-mut κs a z y e f p q = same p q
 
-pub record-Peripheral-handle-diagnostics-response : Coincide 2 K·record-Peripheral-handle-diagnostics-response.ps K·record-Peripheral-handle-diagnostics-response.r R·record-Peripheral-handle-diagnostics-response.Learnt (λ κs z y e f. (z .taken ≡ y .taken) × (z .station ≡ y .station) × (now (e .1 .1 .1 .0) ≡ now (f .1 .1 .1 .0)))
-record-Peripheral-handle-diagnostics-response κs a z y e f p q = (same (p .answer) (q .answer), same (p .after) (q .after), same (p .bytes) (q .bytes))
+pub record-Peripheral-handle-diagnostics-response : Coincide 2 K·record-Peripheral-handle-diagnostics-response.ps K·record-Peripheral-handle-diagnostics-response.r R·record-Peripheral-handle-diagnostics-response.Learnt (λ κs z y e f. (z ≡ y) × (now (e .1 .1 .1 .0) ≡ now (f .1 .1 .1 .0)))
+record-Peripheral-handle-diagnostics-response κs a z y e f p q = (rw (same (p .answer) (q .answer), same (p .after) (q .after)) refl, same (p .bytes) (q .bytes))
 
 pub record-Peripheral-receive-reply : Coincide 3 K·record-Peripheral-receive-reply.ps K·record-Peripheral-receive-reply.r R·record-Peripheral-receive-reply.Learnt (λ κs z y e f. (z ≡ y) × (now (e .1 .1 .1 .0) ≡ now (f .1 .1 .1 .0)) × (now (e .1 .1 .1 .1 .0) ≡ now (f .1 .1 .1 .1 .0)))
 record-Peripheral-receive-reply κs a z y e f p q = (same (p .answer) (q .answer), same (p .inputPool) (q .inputPool), same (p .diagPool) (q .diagPool))
