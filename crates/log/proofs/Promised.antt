@@ -4,35 +4,40 @@ use mathlib.Core.Path.{_≡_, refl, sym, _∙_, subst}
 use mathlib.Core.Bool.{Bool, true, false, not, _&&_, false≢true}
 use mathlib.Core.Logic.{_↔_}
 use mathlib.Core.List.{List, [], _∷_}
+use mathlib.Core.Option.{some, Option·none-ne-some}
 use Prim.Native.Nat.{ℕ}
 use lib.ListN.{length, getD, replicate, length-replicate, getD-replicate, List·getD-eq-default}
 use lib.Dec.{T, eqb, ltb, leb}
+use lib.Pow.{pow-pos}
 use borrow.Author.Tests.{eqb-true, eq-eqb, ltb-true, ltb-false, lt-ltb}
 use Rattle.parts.specs.Parts.{pick}
-use Rattle.parts.proofs.Laws.{by-test}
+use Rattle.parts.proofs.Laws.{by-test, and-false}
 use Rattle.fdl.specs.declared.parameters.Parameters.{Parameters}
 use Rattle.fdl.specs.Params.{inRange, held, lowest}
+use Rattle.station.proofs.Visits.{wish-falls}
 use Rattle.peripheral_set.specs.Marks.{slots}
+use Rattle.answers.specs.Turn.{refusedTurn}
 use Rattle.master.specs.Unit.{emptyUnit, createdOf}
 use Rattle.master.specs.Add.{userOf, configOf, lengthsOf}
 use Rattle.master.specs.Turn.{stepAt, sweptBy}
 use Rattle.master.specs.Reply.{replyAt}
+use Rattle.master.proofs.Bits.{zero-bit}
 use Rattle.valid.specs.Valid.{Valid, balance, occupied}
 use Rattle.access.specs.Lookup.{foundIn}
 use Rattle.master.specs.declared.unit.DpMaster.{DpMaster}
 use Rattle.valid.proofs.Balances.{marked-below}
 use Rattle.peripheral_set.specs.declared.PeripheralHandle.{PeripheralHandle}
 use Rattle.log.specs.Calls.{Pools, World, lend, Call, add, enter, turn, reply, reset, wish, write, hand, accepted, addStep, turnStep, replyStep, addNumber, turnNumber, replyNumber, turnPayloadAt, step}
-use Rattle.log.specs.Words.{Entry, turnOf, reportedOffline, slotLog, frameOf, occupiedIn, reached, dueOf, asksData}
+use Rattle.log.specs.Words.{Entry, turnOf, slotAsked, reportedOffline, slotLog, frameOf, occupiedIn, reached, dueOf, asksData}
 use Rattle.log.specs.Run.{run}
-use Rattle.log.specs.Promises.{ImageTold, ReadTold, FrameTold, AskedTold, NeverOverlap}
+use Rattle.log.specs.Promises.{ImageTold, ReadTold, FrameTold, AskedTold, ReachedTold, Masked, MaskTold, NeverOverlap}
 use Rattle.log.proofs.Wording.{and-l, and-r, ready, wording, due-wording}
 use Rattle.log.proofs.Steps.{turn-accepted, reply-accepted, refused-same, valid-step, always-valid}
 use Rattle.log.proofs.Units.{Inv, InvAt, inv-enter, inv-write, inv-hand, inv-wish, inv-reset}
 use Rattle.log.proofs.Lent.{lent-same}
 use Rattle.log.proofs.Adding.{inv-add}
 use Rattle.log.proofs.Replying.{inv-reply}
-use Rattle.log.proofs.Turning.{inv-turn, asked-step}
+use Rattle.log.proofs.Turning.{inv-turn, asked-reached, asked-step, mask-bits, mask-event}
 
 -- ---- a fresh unit
 
@@ -134,18 +139,16 @@ never-overlap u pools cs s t h k d =
     let i = inv-run u pools cs in
     i .valid .apart s t (there (run u pools cs .world) (run u pools cs .log) i s h) (there (run u pools cs .world) (run u pools cs .log) i t k) d
 
-from-place : (a b c : Bool) → T (a && b && c) → T (b && c)
-from-place true b c h = h
-from-place false b c h = absurd h
+-- a refused turn reaches nobody
+refused-reaches : (l : List Entry) (n s : ℕ) → reached l (refusedTurn n) s ≡ false
+refused-reaches l n s = and-false (occupiedIn l s && leb (frameOf l .place .slot) s) false refl
 
 -- asked, of any unit and log for which the invariant holds
 module _ (w : World) (l : List Entry) (i : Inv w l) (time : ℕ) (high : Bool) (ns nq : ℕ) (buf : List ℕ) (s : ℕ) where
   asked-by : (b : Bool) → let a = turnOf (turnStep b (turnNumber time ns nq buf w) (stepAt time high (w .unit)) (sweptBy (stepAt time high (w .unit)) (w .unit)) (turnPayloadAt time high ns nq w) time buf w .answer) in
       T (reached l a s) → T (not (reportedOffline s a)) → asksData s (a .transmission) ≡ (not (dueOf (slotLog s l)) && ready (slotLog s l))
-  asked-by true r t =
-      let o = and-l (occupiedIn l s) (leb (frameOf l .place .slot) s) (and-l (occupiedIn l s && leb (frameOf l .place .slot) s) _ r) in
-      asked-step w l i (stepAt time high (w .unit)) (turnPayloadAt time high ns nq w) buf s (there w l i s o) (from-place (getD (w .unit .occupied) s false) (leb (w .unit .state .slot) s) _ (rw (← i .frame-is) at r)) t
-  asked-by false r t = absurd (and-r (occupiedIn l s && leb (frameOf l .place .slot) s) false r)
+  asked-by true r t = asked-step w l i (stepAt time high (w .unit)) (turnPayloadAt time high ns nq w) buf s r t
+  asked-by false r t = absurd (rw (refused-reaches l (turnNumber time ns nq buf w) s) at r)
 
 split : (a d r : Bool) → a ≡ (not d && r) → T a ↔ ((T d → ⊥) × T r)
 split a true true e = (λ h. absurd (rw e at h), λ h. absurd (h .0 tt))
@@ -160,3 +163,40 @@ asked-told u pools cs time high ns nq buf s r t =
     let n = slotLog s (run u pools cs .log) in
     let e = split _ (dueOf n) (ready n) (asked-by w (run u pools cs .log) (inv-run u pools cs) time high ns nq buf s (eqb (turnNumber time ns nq buf w) 0) r t) in
     (λ h. (λ q. e .0 h .0 (due-wording n .1 q), wording n .0 (e .0 h .1)), λ h. e .1 (λ q. h .0 (due-wording n .0 q), wording n .1 (h .1)))
+
+-- the mask, of any unit and log for which the invariant holds
+module _ (w : World) (l : List Entry) (i : Inv w l) (time : ℕ) (high : Bool) (ns nq : ℕ) (buf : List ℕ) where
+  mask-by : (b : Bool) → Masked l (w .unit) (turnOf (turnStep b (turnNumber time ns nq buf w) (stepAt time high (w .unit)) (sweptBy (stepAt time high (w .unit)) (w .unit)) (turnPayloadAt time high ns nq w) time buf w .answer))
+  mask-by true =
+      record {
+        bits = λ s.
+            let p = balance (w .unit) s in
+            rw (← wish-falls (p .options .«has_user_parameters») (p .options .«has_config») (p .station) (w .unit .parameters .«max_retry_limit»))
+            (mask-bits w l i (stepAt time high (w .unit)) (turnPayloadAt time high ns nq w) buf s);
+        said = mask-event w l i (stepAt time high (w .unit)) (turnPayloadAt time high ns nq w) buf;
+      }
+  mask-by false =
+      record {
+        bits = λ s. rw (refused-reaches l (turnNumber time ns nq buf w) s, zero-bit s) refl;
+        said = record { above = pow-pos slots; event = refl; own = λ t. absurd t; lowest = λ t. absurd t; address = λ t. absurd t };
+      }
+
+-- a turn that asks a slot reaches it
+module _ (w : World) (l : List Entry) (i : Inv w l) (time : ℕ) (high : Bool) (ns nq : ℕ) (buf : List ℕ) (s : ℕ) where
+  reached-by : (b : Bool) → let o = turnStep b (turnNumber time ns nq buf w) (stepAt time high (w .unit)) (sweptBy (stepAt time high (w .unit)) (w .unit)) (turnPayloadAt time high ns nq w) time buf w in
+      Valid (o .world .unit) → slotAsked (turnOf (o .answer) .transmission) ≡ some s → reached l (turnOf (o .answer)) s ≡ true
+  reached-by true v q = asked-reached w l i (stepAt time high (w .unit)) (turnPayloadAt time high ns nq w) buf time s v q
+  reached-by false v q = absurd (Option·none-ne-some s q)
+
+pub reached-told : ReachedTold
+unfolding step
+reached-told u pools cs time high ns nq buf s q =
+    let w = run u pools cs .world in
+    let i = inv-run u pools cs in
+    rw (reached-by w (run u pools cs .log) i time high ns nq buf s (eqb (turnNumber time ns nq buf w) 0) (valid-step w (turn time high ns nq buf) (i .valid)) q) tt
+
+pub mask-told : MaskTold
+unfolding step
+mask-told u pools cs time high ns nq buf =
+    let w = run u pools cs .world in
+    mask-by w (run u pools cs .log) (inv-run u pools cs) time high ns nq buf (eqb (turnNumber time ns nq buf w) 0)

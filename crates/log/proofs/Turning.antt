@@ -5,19 +5,21 @@ use mathlib.Core.Bool.{Bool, true, false, not, _&&_, _||_, false≢true}
 use mathlib.Core.Logic.{_⊎_, ⊎-elim}
 use mathlib.Core.List.{List, _∷_}
 use mathlib.Core.Option.{Option, none, some, Option·none-ne-some}
-use Prim.Native.Nat.{ℕ, _-_, _≤_}
+use Prim.Native.Nat.{ℕ, _-_, _≤_, _<_}
 use native.Mathlib.Omega.{arith}
 use lib.ListN.{getD}
 use lib.Dec.{T, eqb, leb}
-use borrow.Author.Tests.{eqb-true, eq-eqb}
+use borrow.Author.Tests.{eqb-true, eq-eqb, ne-eqb, lt-leb, lt-ltb}
 use Rattle.parts.specs.Parts.{pick}
-use Rattle.parts.proofs.Laws.{by-test}
+use Rattle.parts.proofs.Laws.{by-test, and-false}
 use Rattle.fdl.specs.declared.parameters.Parameters.{Parameters}
 use Rattle.telegrams.specs.declared.request.Request.{Request}
 use Rattle.telegrams.specs.declared.request.Request.the-variants.{Diagnosis, Parameters as ParameterRequest, Configuration, Data}
 use Rattle.telegrams.specs.Request.{kindNumber}
 use Rattle.station.specs.declared.visit.Visited.{Visited}
 use Rattle.station.specs.declared.visit.Visited.the-variants.{Sent as Sends, Fell, Skipped}
+use Rattle.station.specs.declared.record.Station.{Station}
+use Rattle.station.specs.declared.state.PeripheralEvent.the-variants.{Nothing as NoEvent, Offline as WentOffline}
 use Rattle.station.specs.State.{stateOf}
 use Rattle.station.specs.Visit.{visitedOf}
 use Rattle.station.proofs.Visits.{falls, asksData as wantsData}
@@ -25,6 +27,7 @@ use Rattle.peripheral.specs.declared.record.Peripheral.{Peripheral}
 use Rattle.peripheral.specs.Record.{blank, stationIs, inputImage}
 use Rattle.peripheral.specs.Visit.{wishesOf}
 use Rattle.peripheral_set.specs.Marks.{slots}
+use Rattle.cycle.specs.declared.seen.Seen.{Seen}
 use Rattle.cycle.specs.declared.seen.Sent.{Sent}
 use Rattle.cycle.specs.declared.seen.Sent.the-variants.{Nothing, To}
 use Rattle.cycle.specs.declared.state.DpMasterState.{DpMasterState}
@@ -32,36 +35,62 @@ use Rattle.cycle.specs.declared.state.OperatingState.{OperatingState}
 use Rattle.cycle.specs.declared.state.OperatingState.the-variants.{Stop, Clear, Operate}
 use Rattle.cycle.specs.declared.state.Step.{Step}
 use Rattle.cycle.specs.declared.state.Step.the-variants.{Stop as Stopped, Control, Back, Visits}
-use Rattle.cycle.specs.Seen.{idle}
+use Rattle.cycle.specs.Seen.{nothingSeen, indexOf, idle}
 use Rattle.cycle.specs.State.{operatingOf, dueOf as controlDue, stepOf, startOf, afterTurn}
 use Rattle.answers.specs.Turn.{transmissionOf, visitsTransmit, completesOf, fellEvent, handleOf}
 use Rattle.master.specs.declared.unit.DpMaster.{DpMaster}
 use Rattle.master.specs.Turn.{sweepFrom, stepAt, sweptBy, unitTurned, askedIn, turnAnswer}
 use Rattle.master.specs.Unit.{stateIs, balancesAre, balanceAt}
-use Rattle.master.proofs.Bits.{bit}
+use Rattle.master.proofs.Bits.{bit, zero-bit}
 use Rattle.valid.specs.Valid.{Valid, balance, occupied}
 use Rattle.valid.proofs.Balances.{marked-below}
 use Rattle.log.specs.Calls.{World, lend, turn, turned, unitIs, step}
-use Rattle.log.specs.Words.{Entry, Note, wentOffline, asked, Place, target, isOffline, bitSet, reportedOffline, noteAsked, slotLog, placeTurned, upTo, isKind, dueOf, imageOf, asksData}
+use Rattle.log.specs.Words.{Entry, Note, wentOffline, asked, Place, target, isOffline, bitSet, reportedOffline, noteAsked, slotLog, placeTurned, slotAsked, upTo, reached, isKind, dueOf, imageOf, asksData}
+use Rattle.log.specs.Promises.{MaskEvent}
 use Rattle.log.proofs.Wording.{ready}
 use Rattle.log.proofs.Stations.{Told, Fits, fitsVisit, visitNote, told-visited, wish-fits, asked-when}
-use Rattle.log.proofs.Visits.{kindSent, wentTo, kindOf, Swung, all-visits, event-bit}
+use Rattle.log.proofs.Visits.{kindSent, wentTo, kindOf, Swung, all-visits, Lowest, Firsts, all-first, empty-bit}
 use Rattle.log.proofs.Units.{Link, Inv, InvAt}
 
 -- ---- what an answer says of slot s
 
--- by event or mask bit is by mask bit: the event's slot is in the mask
-reported-is : (first mask address s : ℕ) → (first ≡ 255) ⊎ (bit first mask ≡ 1)
-    → ((isOffline (fellEvent first) && eqb s (handleOf first address .slot)) || bitSet s mask) ≡ bitSet s mask
-reported-is first mask address s f =
-    by-test (eqb first 255) (λ e. rw e refl)
-    (λ e.
-    by-test (eqb s first)
-    (λ q.
-    let z : s ≡ first = eqb-true s first q in
-    let b : bit first mask ≡ 1 = ⊎-elim (λ y. absurd (false≢true (sym e ∙ eq-eqb first 255 y))) (λ y. y) f in
-    rw (e, q) (sym (subst (λ (k : ℕ). bitSet k mask ≡ true) (sym z) (eq-eqb (bit first mask) 1 b))))
-    (λ q. rw (e, q) refl))
+-- what the event says of the mask
+module _ (seen : Seen) (f : Firsts slots seen) where
+  not-none : Lowest slots seen → eqb (seen .first) 255 ≡ false
+  not-none k = ne-eqb (seen .first) 255 (λ e. omega (arith, k .below))
+
+  not-empty : Lowest slots seen → eqb (seen .mask) 0 ≡ false
+  not-empty k = ne-eqb (seen .mask) 0 (λ e. let z : bit (seen .first) (seen .mask) ≡ 0 = rw e (zero-bit (seen .first)) in omega (arith, k .own))
+
+  fell : T (isOffline (fellEvent (seen .first))) → Lowest slots seen
+  fell t = ⊎-elim (λ e. absurd (rw (e .0) at t)) (λ k. k) (f .either)
+
+  event-is : fellEvent (seen .first) ≡ pick (eqb (seen .mask) 0) NoEvent WentOffline
+  event-is = ⊎-elim (λ e. rw (e .0, e .1) refl) (λ k. rw (not-none k, not-empty k) refl) (f .either)
+
+  event-own : (address : ℕ) → T (isOffline (fellEvent (seen .first))) → T (bitSet (handleOf (seen .first) address .slot) (seen .mask))
+  event-own address t = let k = fell t in rw (not-none k, k .own) tt
+
+  event-lowest : (address : ℕ) → T (isOffline (fellEvent (seen .first))) → (s : ℕ) → s < handleOf (seen .first) address .slot → T (not (bitSet s (seen .mask)))
+  event-lowest address t s h = let k = fell t in rw (k .lower s (rw (not-none k) at h)) tt
+
+  -- by event or mask bit is by mask bit: the event's slot is in the mask
+  reported-is : (address s : ℕ) → ((isOffline (fellEvent (seen .first)) && eqb s (handleOf (seen .first) address .slot)) || bitSet s (seen .mask)) ≡ bitSet s (seen .mask)
+  reported-is address s =
+      ⊎-elim (λ e. rw (e .0) refl)
+      (λ k.
+      rw (not-none k)
+      (by-test (eqb s (seen .first))
+      (λ q. let z : s ≡ seen .first = eqb-true s (seen .first) q in rw (q, z, k .own) refl)
+      (λ q. rw q refl)))
+      (f .either)
+
+-- a visit keeps the address
+address-kept : (b : Bool) (v : Visited) (p : Peripheral) → pick b (stationIs (visitedOf v (p .station)) p) p .station .address ≡ p .station .address
+address-kept false v p = refl
+address-kept true (Sends k) p = refl
+address-kept true Fell p = refl
+address-kept true Skipped p = refl
 
 one-or-none : (b : Bool) → eqb (pick b 1 0) 1 ≡ b
 one-or-none true = refl
@@ -158,9 +187,9 @@ module _ (w : World) (l : List Entry) (i : Inv w l) where
   starts Back = omega arith
   starts Visits = omega (arith, i .valid .place)
 
-  first-bit : (step : Step) → (sweptBy step (w .unit) .seen .first ≡ 255) ⊎ (bit (sweptBy step (w .unit) .seen .first) (sweptBy step (w .unit) .seen .mask) ≡ 1)
+  firsts : (step : Step) → Firsts slots (sweptBy step (w .unit) .seen)
   unfolding sweptBy
-  first-bit step = event-bit (w .unit .parameters .«max_retry_limit») (w .unit .occupied) (startOf step (w .unit .state)) (w .unit .peripherals) (starts step)
+  firsts step = all-first (w .unit .parameters .«max_retry_limit») (w .unit .occupied) (startOf step (w .unit .state)) (w .unit .peripherals) (starts step)
 
   -- steps 1 to 3 send to nobody
   steps-noted : (step : Step) (p : Peripheral) (u : Parameters) (s : ℕ) (n : List Note)
@@ -176,7 +205,7 @@ module _ (w : World) (l : List Entry) (i : Inv w l) where
     unfolding turnAnswer
     reported s o =
         let x = sweptBy step (w .unit) in
-        reported-is (x .seen .first) (x .seen .mask) (balanceAt (x .balances) (x .seen .first) .station .address) s (first-bit step)
+        reported-is (x .seen) (firsts step) (balanceAt (x .balances) (x .seen .first) .station .address) s
         ∙ (rw (swung step s o .mask) (one-or-none (swung step s o .visited && falls (wishesOf (w .unit .parameters .«max_retry_limit») (balance (w .unit) s)))))
 
     sent-noted : (s : ℕ) (o : occupied (w .unit) s) (n : List Note)
@@ -250,6 +279,59 @@ module _ (w : World) (l : List Entry) (i : Inv w l) where
               ∙ ap imageOf (sym (notes-are step payload buf s u (slotLog s l)));
         }
 
+  -- ---- reached is visited
+
+  -- steps 1 to 3 visit nobody
+  nobody : (step : Step) (s : ℕ) (o : occupied (w .unit) s) → leb (startOf step (w .unit .state)) s ≡ false → swung step s o .visited ≡ false
+  nobody step s o e = sym (swung step s o .went) ∙ rw e refl
+
+  went-far : (step : Step) (s : ℕ) (o : occupied (w .unit) s) → let y = sweptBy step (w .unit) in
+      (leb (w .unit .state .slot) s && upTo s (completesOf step (y .seen .sent)) (transmissionOf step (y .seen .sent) (askedIn y) (w .unit .parameters))) ≡ swung step s o .visited
+  went-far Stopped s o = and-false (leb (w .unit .state .slot) s) false refl ∙ sym (nobody Stopped s o (lt-leb slots s (marked-below (w .unit) (i .valid) s o)))
+  went-far Control s o = and-false (leb (w .unit .state .slot) s) false refl ∙ sym (nobody Control s o (lt-leb slots s (marked-below (w .unit) (i .valid) s o)))
+  went-far Back s o = and-false (leb (w .unit .state .slot) s) false refl ∙ sym (nobody Back s o (lt-leb slots s (marked-below (w .unit) (i .valid) s o)))
+  went-far Visits s o =
+      let y = sweptBy Visits (w .unit) in
+      ap (λ (b : Bool). leb (w .unit .state .slot) s && b) (visits-went (y .seen .sent) (askedIn y) (w .unit .parameters) s) ∙ swung Visits s o .went
+
+  module _ (step : Step) (payload buf : List ℕ) where
+    reached-visited : (s : ℕ) (o : occupied (w .unit) s) → reached l (turnAnswer step (sweptBy step (w .unit)) (w .unit) payload buf) s ≡ swung step s o .visited
+    unfolding turnAnswer
+    reached-visited s o = rw (← i .frame-is, o) (went-far step s o)
+
+    reached-empty : (s : ℕ) → getD (w .unit .occupied) s false ≡ false → reached l (turnAnswer step (sweptBy step (w .unit)) (w .unit) payload buf) s ≡ false
+    reached-empty s e = rw (← i .frame-is, e) refl
+
+    -- the slot that a turn asks is reached
+    reached-asked : (s : ℕ) (k : Request) (o : occupied (w .unit) s) → sweptBy step (w .unit) .seen .sent ≡ To s k → reached l (turnAnswer step (sweptBy step (w .unit)) (w .unit) payload buf) s ≡ true
+    reached-asked s k o e = reached-visited s o ∙ sends (swung step s o .visited) _ (kind-here s k (sweptBy step (w .unit) .seen .sent) _ e (swung step s o .kind))
+      where
+        sends : (b : Bool) (r : Option Request) → some k ≡ pick b r none → b ≡ true
+        sends true r q = refl
+        sends false r q = absurd (Option·none-ne-some k (sym q))
+
+  is-kind : (k : Request) → kindNumber k ≡ 0 → ⊥
+  is-kind Diagnosis e = omega arith
+  is-kind ParameterRequest e = omega arith
+  is-kind Configuration e = omega arith
+  is-kind Data e = omega arith
+
+  pub asked-reached : (step : Step) (payload buf : List ℕ) (time s : ℕ) → Valid (unitTurned step (sweptBy step (w .unit)) time (w .unit)) → let a = turnAnswer step (sweptBy step (w .unit)) (w .unit) payload buf in
+      slotAsked (a .transmission) ≡ some s → reached l a s ≡ true
+  unfolding turnAnswer
+  asked-reached Stopped payload buf time s v q = absurd (Option·none-ne-some s q)
+  asked-reached Control payload buf time s v q = absurd (Option·none-ne-some s q)
+  asked-reached Back payload buf time s v q = absurd (Option·none-ne-some s q)
+  asked-reached Visits payload buf time s v q = by-sent (sweptBy Visits (w .unit) .seen .sent) refl q v
+    where
+      by-sent : (sent : Sent) → sweptBy Visits (w .unit) .seen .sent ≡ sent → slotAsked (visitsTransmit sent (askedIn (sweptBy Visits (w .unit))) (w .unit .parameters)) ≡ some s
+          → Valid (stateIs (afterTurn Visits sent time (w .unit .state)) (balancesAre (sweptBy Visits (w .unit) .balances) (w .unit))) → reached l (turnAnswer Visits (sweptBy Visits (w .unit)) (w .unit) payload buf) s ≡ true
+      by-sent Nothing e q v = absurd (Option·none-ne-some s q)
+      by-sent (To t k) e q v =
+          let z : t ≡ s = cc in
+          let o : occupied (w .unit) t = ⊎-elim (λ n. absurd (is-kind k n)) (λ o. o) (v .opened) in
+          reached-asked Visits payload buf s k (subst (occupied (w .unit)) z o) (rw z at e)
+
   -- ---- asked for data
 
   wants-is : (v : Visited) → isKind Data (kindOf v) ≡ wantsData v
@@ -265,27 +347,67 @@ module _ (w : World) (l : List Entry) (i : Inv w l) where
   not-fell true false r eb e t = refl
   not-fell false f r eb e t = absurd (false≢true eb)
 
-  was-visited : (a b c : Bool) → (a && b) ≡ c → T (a && b) → c ≡ true
-  was-visited true true c e t = sym e
-  was-visited true false c e t = absurd t
-  was-visited false b c e t = absurd t
+  is-true : (b : Bool) → T b → b ≡ true
+  is-true true h = refl
+  is-true false h = absurd h
 
-  no-further : (a : Bool) → T (a && false) → ⊥
-  no-further true t = t
-  no-further false t = t
-
-  pub asked-step : (step : Step) (payload buf : List ℕ) (s : ℕ) (o : occupied (w .unit) s) → let a = turnAnswer step (sweptBy step (w .unit)) (w .unit) payload buf in
-      T (leb (w .unit .state .slot) s && upTo s (a .«cycle_completed») (a .transmission)) → T (not (reportedOffline s a)) → asksData s (a .transmission) ≡ (not (dueOf (slotLog s l)) && ready (slotLog s l))
+  pub asked-step : (step : Step) (payload buf : List ℕ) (s : ℕ) → let a = turnAnswer step (sweptBy step (w .unit)) (w .unit) payload buf in
+      T (reached l a s) → T (not (reportedOffline s a)) → asksData s (a .transmission) ≡ (not (dueOf (slotLog s l)) && ready (slotLog s l))
   unfolding turnAnswer
-  asked-step Stopped payload buf s o r t = absurd (no-further (leb (w .unit .state .slot) s) r)
-  asked-step Control payload buf s o r t = absurd (no-further (leb (w .unit .state .slot) s) r)
-  asked-step Back payload buf s o r t = absurd (no-further (leb (w .unit .state .slot) s) r)
-  asked-step Visits payload buf s o r t =
-      let p = balance (w .unit) s in
-      let y = sweptBy Visits (w .unit) in
-      let x = swung Visits s o in
-      let v = wishesOf (w .unit .parameters .«max_retry_limit») p in
-      let vis : x .visited ≡ true = was-visited (leb (w .unit .state .slot) s) (wentTo s (y .seen .sent)) (x .visited) (x .went) (rw (visits-went (y .seen .sent) (askedIn y) (w .unit .parameters) s) at r) in
-      let up : falls v ≡ false = not-fell (x .visited) (falls v) _ vis (reported Visits payload buf s o) t in
-      visits-asked (y .seen .sent) (askedIn y) (w .unit .parameters) s ∙ ap (isKind Data) (rw vis at (x .kind)) ∙ wants-is v
-      ∙ asked-when (w .unit .parameters .«max_retry_limit») (p .options .«has_user_parameters») (p .options .«has_config») (p .station) (slotLog s l) (i .told s o) up
+  asked-step step payload buf s r t = by-test (getD (w .unit .occupied) s false) (λ o. at step o (is-true (swung step s o .visited) (rw (reached-visited step payload buf s o) at r)) t) (λ e. absurd (rw (reached-empty step payload buf s e) at r))
+    where
+      at : (st : Step) (o : occupied (w .unit) s) → swung st s o .visited ≡ true → let a = turnAnswer st (sweptBy st (w .unit)) (w .unit) payload buf in
+          T (not (reportedOffline s a)) → asksData s (a .transmission) ≡ (not (dueOf (slotLog s l)) && ready (slotLog s l))
+      at Stopped o vis t = absurd (false≢true (sym (nobody Stopped s o (lt-leb slots s (marked-below (w .unit) (i .valid) s o))) ∙ vis))
+      at Control o vis t = absurd (false≢true (sym (nobody Control s o (lt-leb slots s (marked-below (w .unit) (i .valid) s o))) ∙ vis))
+      at Back o vis t = absurd (false≢true (sym (nobody Back s o (lt-leb slots s (marked-below (w .unit) (i .valid) s o))) ∙ vis))
+      at Visits o vis t =
+          let p = balance (w .unit) s in
+          let y = sweptBy Visits (w .unit) in
+          let x = swung Visits s o in
+          let v = wishesOf (w .unit .parameters .«max_retry_limit») p in
+          let up : falls v ≡ false = not-fell (x .visited) (falls v) _ vis (reported Visits payload buf s o) t in
+          visits-asked (y .seen .sent) (askedIn y) (w .unit .parameters) s ∙ ap (isKind Data) (rw vis at (x .kind)) ∙ wants-is v
+          ∙ asked-when (w .unit .parameters .«max_retry_limit») (p .options .«has_user_parameters») (p .options .«has_config») (p .station) (slotLog s l) (i .told s o) up
+
+  -- ---- the mask
+
+  bit-empty : (step : Step) (s : ℕ) → getD (w .unit .occupied) s false ≡ false → bitSet s (sweptBy step (w .unit) .seen .mask) ≡ false
+  unfolding sweptBy
+  bit-empty step s e =
+      let from = startOf step (w .unit .state) in
+      rw (empty-bit (w .unit .parameters .«max_retry_limit») (w .unit .occupied) s (slots - from) from nothingSeen (w .unit .peripherals) e ∙ zero-bit s) refl
+
+  bit-there : (step : Step) (s : ℕ) (o : occupied (w .unit) s) → bitSet s (sweptBy step (w .unit) .seen .mask) ≡ (swung step s o .visited && falls (wishesOf (w .unit .parameters .«max_retry_limit») (balance (w .unit) s)))
+  bit-there step s o = rw (swung step s o .mask) (one-or-none _)
+
+  module _ (step : Step) (payload buf : List ℕ) where
+    pub mask-bits : (s : ℕ) → let a = turnAnswer step (sweptBy step (w .unit)) (w .unit) payload buf in
+        bitSet s (a .offline) ≡ (reached l a s && falls (wishesOf (w .unit .parameters .«max_retry_limit») (balance (w .unit) s)))
+    unfolding turnAnswer
+    mask-bits s =
+        by-test (getD (w .unit .occupied) s false) (λ o. rw (reached-visited step payload buf s o) (bit-there step s o)) (λ e. rw (reached-empty step payload buf s e) (bit-empty step s e))
+
+    there : (s : ℕ) → bit s (sweptBy step (w .unit) .seen .mask) ≡ 1 → occupied (w .unit) s
+    there s b = by-test (getD (w .unit .occupied) s false) (λ o. o) (λ e. absurd (false≢true (sym (bit-empty step s e) ∙ eq-eqb _ 1 b)))
+
+    address-before : (s : ℕ) → occupied (w .unit) s → getD (sweptBy step (w .unit) .balances) s blank .station .address ≡ balance (w .unit) s .station .address
+    address-before s o =
+        ap (λ (q : Peripheral). q .station .address) (swung step s o .balance) ∙ address-kept (swung step s o .visited) (wishesOf (w .unit .parameters .«max_retry_limit») (balance (w .unit) s)) (balance (w .unit) s)
+
+    -- the mask above the slots, and the event
+    pub mask-event : let a = turnAnswer step (sweptBy step (w .unit)) (w .unit) payload buf in MaskEvent (w .unit) a
+    unfolding turnAnswer
+    mask-event =
+        let x = sweptBy step (w .unit) in
+        let f = firsts step in
+        let address : ℕ = balanceAt (x .balances) (x .seen .first) .station .address in
+        record {
+          above = f .within;
+          event = event-is (x .seen) f;
+          own = event-own (x .seen) f address;
+          lowest = event-lowest (x .seen) f address;
+          address = λ t.
+              let k = fell (x .seen) f t in
+              rw (not-none (x .seen) f k, lt-ltb (x .seen .first) slots (k .below)) (address-before (x .seen .first) (there (x .seen .first) (k .own)));
+        }

@@ -5,15 +5,17 @@ use mathlib.Core.Bool.{Bool, true, false, _&&_, false≢true}
 use mathlib.Core.Logic.{_⊎_, inl, inr, ⊎-elim}
 use mathlib.Core.List.{List}
 use mathlib.Core.Option.{Option, none, some}
-use Prim.Native.Nat.{ℕ, zero, suc, _+_, _-_, _≤_, _<_}
+use Prim.Native.Nat.{ℕ, zero, suc, _+_, _-_, _≤_, _<_, _^_}
 use native.Mathlib.Omega.{arith}
+use native.Mathlib.Nat.{add-zero}
 use lib.ListN.{length, getD, set, length-set}
 use lib.Seq.{getD-set-same, getD-set-other}
 use lib.Dec.{eqb, ltb, leb}
-use lib.Bits.{bitOr}
-use borrow.Author.Tests.{ne-eqb, eq-eqb, lt-ltb, le-leb, lt-leb, leb-true, leb-false}
+use lib.Bits.{bitOr, or-lt}
+use lib.Pow.{pow-pos, pow-lt}
+use borrow.Author.Tests.{ltb-true, ltb-false, ne-eqb, eq-eqb, lt-ltb, le-leb, lt-leb, leb-true, leb-false}
 use Rattle.parts.specs.Parts.{pick}
-use Rattle.parts.proofs.Laws.{by-test, and-right}
+use Rattle.parts.proofs.Laws.{by-test, and-left, and-right}
 use Rattle.telegrams.specs.declared.request.Request.{Request}
 use Rattle.station.specs.declared.visit.Visited.{Visited}
 use Rattle.station.specs.declared.visit.Visited.the-variants.{Sent as Sends, Fell, Skipped}
@@ -221,38 +223,74 @@ all-visits limit marks from s ps h n m =
     let b = after-slot limit marks s (slots - from) from nothingSeen ps f in
     record { visited = false; balance = b .balance; mask = b .mask ∙ zero-bit s; kind = b .kind; went = rw l refl })
 
--- ---- the event of a turn: its slot is in the mask
+-- ---- the event of a turn: nobody fell, or it has the lowest bit of the mask; i is where the visits go on
 
-Firsts : Seen → Type 0
-Firsts seen = (seen .first ≡ 255) ⊎ (bit (seen .first) (seen .mask) ≡ 1)
+pub record Lowest (i : ℕ) (seen : Seen) : Type 0 where
+  pub below : seen .first < i
+  pub own : bit (seen .first) (seen .mask) ≡ 1
+  pub lower : (s : ℕ) → s < seen .first → bit s (seen .mask) ≡ 0
+
+pub record Firsts (i : ℕ) (seen : Seen) : Type 0 where
+  pub within : seen .mask < 2 ^ slots
+  pub either : ((seen .first ≡ 255) × (seen .mask ≡ 0)) ⊎ Lowest i seen
 
 or-kept : (a b k : ℕ) → bit k a ≡ 1 → bit k (bitOr a b) ≡ 1
 or-kept a b k e = or-bit a b k ∙ rw e (omega arith)
 
-fell-first : (b : Bool) (i : ℕ) (seen : Seen) → i < slots → eqb (seen .first) 255 ≡ b → Firsts seen
-    → Firsts (record { mask = bitOr (seen .mask) (bitAt i); first = pick b i (seen .first); sent = seen .sent })
-unfolding Firsts
-fell-first true i seen h e f = inr (see-here Fell i seen h)
-fell-first false i seen h e f = ⊎-elim (λ q. absurd (false≢true (sym e ∙ eq-eqb (seen .first) 255 q))) (λ q. inr (or-kept (seen .mask) (bitAt i) (seen .first) q)) f
+fell-first : (i : ℕ) (seen : Seen) → i < slots → ((seen .first ≡ 255) × (seen .mask ≡ 0)) ⊎ Lowest i seen → Lowest (i + 1) (seenBy i Fell seen)
+fell-first i seen h (inl e) =
+    rw (e .0)
+    (record { below = omega arith; own = see-here Fell i seen h; lower = λ s t. see-other Fell i s seen (inr t) ∙ rw (e .1) (zero-bit s) })
+fell-first i seen h (inr f) =
+    let n : eqb (seen .first) 255 ≡ false = ne-eqb (seen .first) 255 (λ e. omega (arith, f .below)) in
+    rw n
+    (record {
+      below = omega (arith, f .below);
+      own = or-kept (seen .mask) (bitAt i) (seen .first) (f .own);
+      lower = λ s t. see-other Fell i s seen (inr (omega (arith, f .below))) ∙ f .lower s t;
+    })
 
-see-first : (v : Visited) (i : ℕ) (seen : Seen) → i < slots → Firsts seen → Firsts (seenBy i v seen)
-unfolding Firsts
-see-first (Sends k) i seen h f = f
-see-first Fell i seen h f = fell-first (eqb (seen .first) 255) i seen h refl f
-see-first Skipped i seen h f = f
+later : (i : ℕ) (seen : Seen) → Firsts i seen → Firsts (i + 1) seen
+later i seen f =
+    record {
+      within = f .within;
+      either = ⊎-elim (λ e. inl e) (λ e. inr (record { below = omega (arith, e .below); own = e .own; lower = e .lower })) (f .either);
+    }
 
-sweep-first : (limit : ℕ) (marks : List Bool) (k i : ℕ) (seen : Seen) (ps : List Peripheral) → i + k ≤ slots → Firsts seen → Firsts (sweepFrom k limit marks i seen ps .seen)
+see-first : (v : Visited) (i : ℕ) (seen : Seen) → i < slots → Firsts i seen → Firsts (i + 1) (seenBy i v seen)
+see-first (Sends k) i seen h f = let g = later i seen f in record { within = g .within; either = ⊎-elim (λ e. inl e) (λ e. inr (record { below = e .below; own = e .own; lower = e .lower })) (g .either) }
+see-first Fell i seen h f = record { within = or-lt slots (seen .mask) (bitAt i) (f .within) (rw (lt-ltb i slots h) (pow-lt h)); either = inr (fell-first i seen h (f .either)) }
+see-first Skipped i seen h f = later i seen f
+
+sweep-first : (limit : ℕ) (marks : List Bool) (k i : ℕ) (seen : Seen) (ps : List Peripheral) → i + k ≤ slots → Firsts i seen → Firsts (i + k) (sweepFrom k limit marks i seen ps .seen)
 unfolding sweepFrom
-sweep-first limit marks zero i seen ps h f = f
+sweep-first limit marks zero i seen ps h f = rw add-zero f
 sweep-first limit marks (suc k) i seen ps h f =
-    sweep-first limit marks k (i + 1) _ _ (omega arith) (step (getD marks i false && idle (seen .sent)))
+    let z : i + suc k ≡ (i + 1) + k = omega arith in
+    rw z (sweep-first limit marks k (i + 1) _ _ (omega arith) (step (getD marks i false && idle (seen .sent))))
   where
-    step : (g : Bool) → Firsts (pick g (seenBy i (wishesOf limit (getD ps i blank)) seen) seen)
+    step : (g : Bool) → Firsts (i + 1) (pick g (seenBy i (wishesOf limit (getD ps i blank)) seen) seen)
     step true = see-first (wishesOf limit (getD ps i blank)) i seen (omega arith) f
-    step false = f
+    step false = later i seen f
 
-pub event-bit : (limit : ℕ) (marks : List Bool) (from : ℕ) (ps : List Peripheral) → from ≤ slots
-    → (sweepFrom (slots - from) limit marks from nothingSeen ps .seen .first ≡ 255)
-    ⊎ (bit (sweepFrom (slots - from) limit marks from nothingSeen ps .seen .first) (sweepFrom (slots - from) limit marks from nothingSeen ps .seen .mask) ≡ 1)
-unfolding Firsts
-event-bit limit marks from ps h = sweep-first limit marks (slots - from) from nothingSeen ps (omega arith) (inl refl)
+pub all-first : (limit : ℕ) (marks : List Bool) (from : ℕ) (ps : List Peripheral) → from ≤ slots → Firsts slots (sweepFrom (slots - from) limit marks from nothingSeen ps .seen)
+all-first limit marks from ps h =
+    let z : from + (slots - from) ≡ slots = omega arith in
+    rw z at (sweep-first limit marks (slots - from) from nothingSeen ps (omega arith) (record { within = pow-pos slots; either = inl (refl, refl) }))
+
+-- ---- an empty slot has no bit
+
+not-same : (i s : ℕ) → (i ≡ s → ⊥) → (i < s) ⊎ (s < i)
+not-same i s d = by-test (ltb i s) (λ t. inl (ltb-true i s t)) (λ t. let u = ltb-false i s t in inr (omega (arith, d)))
+
+pub empty-bit : (limit : ℕ) (marks : List Bool) (s k i : ℕ) (seen : Seen) (ps : List Peripheral) → getD marks s false ≡ false
+    → bit s (sweepFrom k limit marks i seen ps .seen .mask) ≡ bit s (seen .mask)
+unfolding sweepFrom
+empty-bit limit marks s zero i seen ps e = refl
+empty-bit limit marks s (suc k) i seen ps e = empty-bit limit marks s k (i + 1) _ _ e ∙ step (getD marks i false && idle (seen .sent)) refl
+  where
+    step : (g : Bool) → (getD marks i false && idle (seen .sent)) ≡ g → bit s (pick g (seenBy i (wishesOf limit (getD ps i blank)) seen) seen .mask) ≡ bit s (seen .mask)
+    step true q =
+        see-other (wishesOf limit (getD ps i blank)) i s seen
+        (not-same i s (λ z. false≢true (sym e ∙ subst (λ (n : ℕ). getD marks n false ≡ true) z (and-left (getD marks i false) (idle (seen .sent)) q))))
+    step false q = refl

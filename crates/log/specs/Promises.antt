@@ -3,22 +3,26 @@
 -- From 01, "Words of the log" and "What the contracts have to say".
 use mathlib.Core.Path.{_≡_}
 use mathlib.Core.Logic.{_↔_}
-use Prim.Native.Nat.{ℕ}
-use mathlib.Core.Bool.{Bool, false, not}
+use Prim.Native.Nat.{ℕ, _<_, _^_}
+use mathlib.Core.Bool.{Bool, false, not, _&&_}
 use mathlib.Core.List.{List, []}
+use mathlib.Core.Option.{some}
 use lib.ListN.{length}
-use lib.Dec.{T, eqb}
+use lib.Dec.{T, eqb, ltb}
 use Rattle.parts.specs.Parts.{pick}
 use Rattle.fdl.specs.declared.parameters.Parameters.{Parameters}
+use Rattle.station.specs.declared.state.PeripheralEvent.the-variants.{Nothing as NoEvent, Offline}
 use Rattle.peripheral.specs.Record.{inputImage}
 use Rattle.peripheral_set.specs.declared.PeripheralHandle.{PeripheralHandle}
+use Rattle.peripheral_set.specs.Marks.{slots}
 use Rattle.cycle.specs.State.{operatingOf}
+use Rattle.answers.specs.declared.turn.TurnAnswer.{TurnAnswer}
 use Rattle.answers.specs.Turn.{refusedTurn}
 use Rattle.master.specs.declared.unit.DpMaster.{DpMaster}
 use Rattle.access.specs.Lookup.{foundIn}
 use Rattle.valid.specs.Valid.{Valid, Apart, balance}
 use Rattle.log.specs.Calls.{Call, turn, turned, Pools, World, Outcome, accepted, refusal, lend, step}
-use Rattle.log.specs.Words.{Entry, turnOf, reportedOffline, slotLog, Frame, frameOf, occupiedIn, reached, imageOf, Due, Ready, asksData}
+use Rattle.log.specs.Words.{Entry, turnOf, slotAsked, isOffline, bitSet, reportedOffline, slotLog, Frame, frameOf, occupiedIn, reached, imageOf, Due, Ready, asksData}
 use Rattle.log.specs.Run.{runBy, run, acceptedOf}
 use Rattle.log.specs.Made.{Allowed, Made}
 
@@ -64,6 +68,36 @@ AskedBy f = (u : Parameters) (pools : Pools) (cs : List Call) (time : ℕ) (high
 
 abbrev pub AskedTold : Type 0
 AskedTold = AskedBy step
+
+-- and whom a turn asks, it reached
+abbrev pub ReachedTold : Type 0
+ReachedTold = (u : Parameters) (pools : Pools) (cs : List Call) (time : ℕ) (high : Bool) (ns nq : ℕ) (buf : List ℕ) (s : ℕ) → let r = run u pools cs in
+    let a = turnOf (step (r .world) (turn time high ns nq buf) .answer) in slotAsked (a .transmission) ≡ some s → T (reached (r .log) a s)
+
+-- ---- MASK: at a turn, bit s of the Offline mask is set exactly when the turn reached slot s and its count was above the limit; the event is that of the lowest bit
+
+-- the mask and the event of a turn's answer a; m is the unit before the turn
+pub record MaskEvent (m : DpMaster) (a : TurnAnswer) : Type 0 where
+  -- no bit above the slots
+  pub above : a .offline < 2 ^ slots
+  -- Offline exactly when a bit is set
+  pub event : a .event ≡ pick (eqb (a .offline) 0) NoEvent Offline
+  -- its slot has its bit, and none before it has
+  pub own : T (isOffline (a .event)) → T (bitSet (a .handle .slot) (a .offline))
+  pub lowest : T (isOffline (a .event)) → (s : ℕ) → s < a .handle .slot → T (not (bitSet s (a .offline)))
+  pub address : T (isOffline (a .event)) → a .handle .address ≡ balance m (a .handle .slot) .station .address
+
+-- l is the log before it
+pub record Masked (l : List Entry) (m : DpMaster) (a : TurnAnswer) : Type 0 where
+  pub bits : (s : ℕ) → bitSet s (a .offline) ≡ (reached l a s && ltb (m .parameters .«max_retry_limit») (balance m s .station .«retry_count»))
+  pub said : MaskEvent m a
+
+abbrev pub MaskBy : (World → Call → Outcome) → Type 0
+MaskBy f = (u : Parameters) (pools : Pools) (cs : List Call) (time : ℕ) (high : Bool) (ns nq : ℕ) (buf : List ℕ)
+    → let r = runBy f u pools cs in Masked (r .log) (r .world .unit) (turnOf (f (r .world) (turn time high ns nq buf) .answer))
+
+abbrev pub MaskTold : Type 0
+MaskTold = MaskBy step
 
 -- ---- beside them
 

@@ -4,5 +4,4 @@ pub mod Replies
 pub mod Adds
 pub mod Dones
 pub mod Bits
-pub mod Mask
 pub mod Checks

@@ -47,13 +47,21 @@ module _ (none : ℕ) (want : Bool) (n : ℕ) (marks : List Bool) (i : ℕ) wher
 -- ---- what a search answers, among k slots from i on
 
 module _ (none : ℕ) (want : Bool) (marks : List Bool) where
-  -- it is the first slot that has the wanted mark
+  -- it is a slot that has the wanted mark
   pub search-found : (k i : ℕ) → searchFrom none want k marks i < none → sameMark want (getD marks (searchFrom none want k marks i) false) ≡ true
   unfolding searchFrom
   search-found zero i h = absurd (omega arith)
   search-found (suc k) i h =
       by-test (sameMark want (getD marks i false)) (λ e. rw e e)
       (λ e. rw e (search-found k (i + 1) (rw e at h)))
+
+  -- and no slot before it has it; where there is none, no slot of them
+  pub search-first : (k i s : ℕ) → i ≤ s → s < i + k → s < searchFrom none want k marks i → sameMark want (getD marks s false) ≡ false
+  unfolding searchFrom
+  search-first zero i s l h t = absurd (omega arith)
+  search-first (suc k) i s l h t =
+      by-test (sameMark want (getD marks i false)) (λ e. absurd (let t′ : s < i = rw e at t in omega arith))
+      (λ e. by-cases (decLe s i) (λ q. let z : s ≡ i = omega arith in rw z e) (λ q. search-first k (i + 1) s (omega (arith, q)) (omega arith) (rw e at t)))
 
   pub search-from : (k i : ℕ) → i + k ≤ none → i ≤ searchFrom none want k marks i
   unfolding searchFrom
