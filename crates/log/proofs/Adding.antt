@@ -10,13 +10,13 @@ use native.Mathlib.Omega.{arith}
 use lib.ListN.{length, getD, set, length-replicate}
 use lib.Seq.{getD-set-other}
 use lib.Dec.{eqb}
-use borrow.Author.Tests.{eq-eqb, not-true}
+use borrow.Author.Tests.{eq-eqb, not-true, not-false}
 use Rattle.parts.specs.Parts.{part, roomFor, zeros}
 use Rattle.parts.proofs.Laws.{inside-yes, room-yes, part-put, part-put-other, length-put}
 use Rattle.peripheral.specs.declared.record.Peripheral.{Peripheral}
 use Rattle.peripheral.specs.Record.{newOf, inputImage}
 use Rattle.peripheral_set.specs.Marks.{slots, firstEmpty}
-use Rattle.peripheral_set.proofs.Laws.{search-found}
+use Rattle.peripheral_set.proofs.Laws.{search-found, search-first}
 use Rattle.cycle.specs.declared.refusal.Lent.{Lent}
 use Rattle.cycle.specs.declared.refusal.Lengths.{Lengths}
 use Rattle.cycle.proofs.Laws.{input-room}
@@ -26,7 +26,7 @@ use Rattle.master.specs.declared.add.Addition.{Addition}
 use Rattle.master.specs.Add.{rangesAt, optionsHeld, cleared, lengthsOf, userOf, configOf}
 use Rattle.valid.specs.Valid.{Valid, balance, occupied}
 use Rattle.log.specs.Calls.{World, lend, back, add, added, addStep, addNumber}
-use Rattle.log.specs.Words.{Entry, Note, wasAdded, Frame, slotLog, frameAfter, imageOf}
+use Rattle.log.specs.Words.{Entry, Note, wasAdded, Frame, slotLog, frameAfter, FirstEmpty, imageOf}
 use Rattle.log.proofs.Stations.{Told, Fits, told-added}
 use Rattle.log.proofs.Lent.{lent-same, lent-back}
 use Rattle.log.proofs.Units.{Inv, InvAt, at-set}
@@ -70,6 +70,15 @@ module _ (w : World) (l : List Entry) (i : Inv w l) (a : Addition) (user config 
   was-empty : getD (w .unit .occupied) t false ≡ false
   unfolding t
   was-empty = not-true _ (search-found slots false (w .unit .occupied) slots 0 below)
+
+  pub first-empty : FirstEmpty l (firstEmpty (w .unit .occupied))
+  unfolding t
+  first-empty =
+      record {
+        slot = below;
+        empty = rw (← i .frame-is, was-empty) tt;
+        before = λ s h. rw (← i .frame-is, not-false (getD (w .unit .occupied) s false) (search-first slots false (w .unit .occupied) slots 0 s (omega arith) (omega (arith, below)) h)) tt;
+      }
 
   -- what was lent of the inputs
   pool-length : length (lend (lent .inputs) (w .pools .inputs)) ≡ w .unit .parameters .«input_pool»

@@ -1,6 +1,6 @@
 -- The promises, proved: over every creation, every contents of the pools and every list of calls.
 -- The idea: the invariant holds of a fresh unit and an empty log, each accepted call keeps it, and a refused one changes nothing.
-use mathlib.Core.Path.{_≡_, refl, sym, _∙_, subst}
+use mathlib.Core.Path.{_≡_, refl, sym, ap, _∙_, subst}
 use mathlib.Core.Bool.{Bool, true, false, not, _&&_, false≢true}
 use mathlib.Core.Logic.{_↔_}
 use mathlib.Core.List.{List, [], _∷_}
@@ -14,7 +14,6 @@ use Rattle.parts.specs.Parts.{pick}
 use Rattle.parts.proofs.Laws.{by-test, and-false}
 use Rattle.fdl.specs.declared.parameters.Parameters.{Parameters}
 use Rattle.fdl.specs.Params.{inRange, held, lowest}
-use Rattle.station.proofs.Visits.{wish-falls}
 use Rattle.peripheral_set.specs.Marks.{slots}
 use Rattle.answers.specs.Turn.{refusedTurn}
 use Rattle.master.specs.Unit.{emptyUnit, createdOf}
@@ -28,20 +27,20 @@ use Rattle.master.specs.declared.unit.DpMaster.{DpMaster}
 use Rattle.valid.proofs.Balances.{marked-below}
 use Rattle.peripheral_set.specs.declared.PeripheralHandle.{PeripheralHandle}
 use Rattle.log.specs.Calls.{Pools, World, lend, Call, add, enter, turn, reply, reset, wish, write, hand, accepted, addStep, turnStep, replyStep, addNumber, turnNumber, replyNumber, turnPayloadAt, step}
-use Rattle.log.specs.Words.{Entry, turnOf, slotAsked, reportedOffline, slotLog, frameOf, occupiedIn, reached, dueOf, asksData}
+use Rattle.log.specs.Words.{Entry, turnOf, slotAsked, reportedOffline, slotLog, Frame, frameOf, occupiedIn, Moved, reached, dueOf, asksData}
 use Rattle.log.specs.Run.{run}
-use Rattle.log.specs.Promises.{ImageTold, ReadTold, FrameTold, AskedTold, ReachedTold, Masked, MaskTold, NeverOverlap}
+use Rattle.log.specs.Promises.{ImageTold, ReadTold, FrameTold, AskedTold, ReachedTold, Masked, MaskTold, FirstTold, NextTold, NeverOverlap}
 use Rattle.log.proofs.Wording.{and-l, and-r, ready, wording, due-wording}
 use Rattle.log.proofs.Steps.{turn-accepted, reply-accepted, refused-same, valid-step, always-valid}
 use Rattle.log.proofs.Units.{Inv, InvAt, inv-enter, inv-write, inv-hand, inv-wish, inv-reset}
 use Rattle.log.proofs.Lent.{lent-same}
-use Rattle.log.proofs.Adding.{inv-add}
-use Rattle.log.proofs.Replying.{inv-reply}
+use Rattle.log.proofs.Adding.{first-empty, inv-add}
+use Rattle.log.proofs.Replying.{reply-moves, inv-reply}
 use Rattle.log.proofs.Turning.{inv-turn, asked-reached, asked-step, mask-bits, mask-event}
 
 -- ---- a fresh unit
 
-no-mark : (n i : ℕ) → getD (replicate n false) i false ≡ false
+pub no-mark : (n i : ℕ) → getD (replicate n false) i false ≡ false
 no-mark n i =
     by-test (ltb i n) (λ e. getD-replicate n i false false (ltb-true i n e))
     (λ e. List·getD-eq-default (replicate n false) false (simp length-replicate (ltb-false i n e)))
@@ -169,15 +168,12 @@ module _ (w : World) (l : List Entry) (i : Inv w l) (time : ℕ) (high : Bool) (
   mask-by : (b : Bool) → Masked l (w .unit) (turnOf (turnStep b (turnNumber time ns nq buf w) (stepAt time high (w .unit)) (sweptBy (stepAt time high (w .unit)) (w .unit)) (turnPayloadAt time high ns nq w) time buf w .answer))
   mask-by true =
       record {
-        bits = λ s.
-            let p = balance (w .unit) s in
-            rw (← wish-falls (p .options .«has_user_parameters») (p .options .«has_config») (p .station) (w .unit .parameters .«max_retry_limit»))
-            (mask-bits w l i (stepAt time high (w .unit)) (turnPayloadAt time high ns nq w) buf s);
+        bits = mask-bits w l i (stepAt time high (w .unit)) (turnPayloadAt time high ns nq w) buf;
         said = mask-event w l i (stepAt time high (w .unit)) (turnPayloadAt time high ns nq w) buf;
       }
   mask-by false =
       record {
-        bits = λ s. rw (refused-reaches l (turnNumber time ns nq buf w) s, zero-bit s) refl;
+        bits = λ s. (rw (zero-bit s) refl) ∙ sym (ap (λ (b : Bool). b && ltb (w .unit .parameters .«max_retry_limit») (balance (w .unit) s .station .«retry_count»)) (refused-reaches l (turnNumber time ns nq buf w) s));
         said = record { above = pow-pos slots; event = refl; own = λ t. absurd t; lowest = λ t. absurd t; address = λ t. absurd t };
       }
 
@@ -200,3 +196,26 @@ unfolding step
 mask-told u pools cs time high ns nq buf =
     let w = run u pools cs .world in
     mask-by w (run u pools cs .log) (inv-run u pools cs) time high ns nq buf (eqb (turnNumber time ns nq buf w) 0)
+
+-- ---- the first empty slot, and the next occupied one
+
+pub first-told : FirstTold
+unfolding step
+first-told u pools cs a user config lent e =
+    let w = run u pools cs .world in
+    rw e (first-empty w (run u pools cs .log) (inv-run u pools cs) a user config lent (eqb-true (addNumber a user config lent w) 0 e))
+
+-- the number of an accepted reply
+reply-done : (w : World) (address : ℕ) (t : _) (payload : List ℕ) (ni nd : ℕ) → accepted (step w (reply address t payload ni nd) .answer) ≡ true → replyNumber address t payload ni nd w ≡ 0
+unfolding step
+reply-done w address t payload ni nd e =
+    let n = replyNumber address t payload ni nd w in
+    eqb-true n 0 (sym (reply-accepted (eqb n 0) n (replyAt t (w .unit) payload (lend ni (w .pools .inputs)) (lend nd (w .pools .diags))) t payload ni nd w refl) ∙ e)
+
+pub next-told : NextTold
+next-told u pools cs address t payload ni nd e =
+    let w = run u pools cs .world in
+    let l = run u pools cs .log in
+    let i = inv-run u pools cs in
+    let j = kept w l i (reply address t payload ni nd) e (valid-step w (reply address t payload ni nd) (i .valid)) in
+    subst (Moved l) (sym (ap (λ (f : Frame). f .place) (j .frame-is))) (reply-moves w l i address t payload ni nd (reply-done w address t payload ni nd e))

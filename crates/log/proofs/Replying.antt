@@ -4,11 +4,12 @@ use mathlib.Core.Path.{_≡_, refl, sym, ap, _∙_}
 use mathlib.Core.Bool.{Bool, true, false, not, false≢true}
 use mathlib.Core.Logic.{_⊎_, ⊎-elim}
 use mathlib.Core.List.{List, _∷_}
-use Prim.Native.Nat.{ℕ, _<_}
+use mathlib.Core.Option.{some}
+use Prim.Native.Nat.{ℕ, _+_, _-_, _≤_, _<_}
 use native.Mathlib.Omega.{arith}
 use lib.ListN.{length, set}
-use lib.Dec.{eqb, ltb}
-use borrow.Author.Tests.{eqb-true, eq-eqb, lt-ltb, not-true}
+use lib.Dec.{T, eqb, ltb}
+use borrow.Author.Tests.{eqb-true, eq-eqb, ltb-true, ltb-false, lt-ltb, not-true}
 use Rattle.parts.proofs.Laws.{by-test}
 use Rattle.fdl.specs.Reply.{carried, usableReply}
 use Rattle.fdl.specs.declared.telegram.Telegram.{Telegram}
@@ -19,6 +20,7 @@ use Rattle.peripheral.specs.Record.{inputImage}
 use Rattle.peripheral.specs.Reply.{withHeard, hearsOf, inputsOf}
 use Rattle.peripheral.proofs.Laws.{inputs-kept, inputs-length, inputs-other, exchanged-image}
 use Rattle.peripheral_set.specs.Marks.{slots, nextAfter}
+use Rattle.peripheral_set.proofs.Laws.{search-found, search-first, search-from}
 use Rattle.cycle.specs.declared.state.DpMasterState.{DpMasterState}
 use Rattle.cycle.specs.Seen.{indexOf}
 use Rattle.cycle.specs.State.{answered}
@@ -31,7 +33,7 @@ use Rattle.master.specs.Reply.{openBalance, replyAt}
 use Rattle.valid.specs.Valid.{Valid, balance, occupied}
 use Rattle.valid.proofs.Balances.{marked-below}
 use Rattle.log.specs.Calls.{World, lend, back, reply, replied, replyStep, replyNumber}
-use Rattle.log.specs.Words.{Entry, Note, got, Place, slotLog, placeNext, imageOf}
+use Rattle.log.specs.Words.{Entry, Note, got, target, Place, slotLog, placeNext, placeReplied, frameOf, occupiedIn, Moved, imageOf}
 use Rattle.log.specs.Promises.{frameIn}
 use Rattle.log.proofs.Stations.{Told, told-replied}
 use Rattle.log.proofs.Lent.{lent-same, lent-back}
@@ -51,6 +53,31 @@ place-is next s = by-test (ltb next slots) (λ e. rw e refl) (λ e. rw e refl)
 
 mode-is : (next : ℕ) (s : DpMasterState) → answered next s .operating ≡ s .operating
 mode-is next s = by-test (ltb next slots) (λ e. rw e refl) (λ e. rw e refl)
+
+-- the next occupied slot, none between
+next-place : (l : List Entry) (t : ℕ) → target l ≡ some t → t < slots → Moved l (placeNext (nextAfter (frameOf l .marks) t))
+next-place l t e h = by-test (ltb next slots) (λ c. rw c (found (ltb-true next slots c))) (λ c. rw c (past (ltb-false next slots c)))
+  where
+    marks : List Bool
+    marks = frameOf l .marks
+
+    next : ℕ
+    next = nextAfter marks t
+
+    empty : (s : ℕ) → t < s → s < slots → s < next → T (not (occupiedIn l s))
+    empty s a b c = rw (search-first slots true marks (slots - (t + 1)) (t + 1) s (omega arith) (omega arith) c) tt
+
+    found : next < slots → Moved l (record { slot = next; past = false })
+    found c =
+        record {
+          slot = t;
+          newest = e;
+          next = λ p. (omega (arith, search-from slots true marks (slots - (t + 1)) (t + 1) (omega arith)), rw (search-found slots true marks (slots - (t + 1)) (t + 1) c) tt);
+          between = λ s a b. empty s a (omega arith) b;
+        }
+
+    past : slots ≤ next → Moved l (record { slot = 0; past = true })
+    past c = record { slot = t; newest = e; next = λ p. absurd (false≢true (sym p)); between = λ s a b. empty s a b (omega arith) }
 
 module _ (w : World) (l : List Entry) (i : Inv w l) (address : ℕ) (r : Telegram) (payload : List ℕ) (ni nd : ℕ) (z : replyNumber address r payload ni nd w ≡ 0) where
   x : ℕ
@@ -79,6 +106,9 @@ module _ (w : World) (l : List Entry) (i : Inv w l) (address : ℕ) (r : Telegra
 
   below : w .unit .state .«open_slot» < slots
   below = marked-below (w .unit) (i .valid) (w .unit .state .«open_slot») there
+
+  pub reply-moves : Moved l (placeReplied (frameOf l .marks) (target l) (frameOf l .place))
+  reply-moves = let k = i .link is-open .aimed in rw k (next-place l (w .unit .state .«open_slot») k below)
 
   index-is : indexOf (w .unit .state .«open_slot») ≡ w .unit .state .«open_slot»
   index-is = rw (lt-ltb (w .unit .state .«open_slot») slots below) refl

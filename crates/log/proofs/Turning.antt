@@ -8,7 +8,7 @@ use mathlib.Core.Option.{Option, none, some, Option·none-ne-some}
 use Prim.Native.Nat.{ℕ, _-_, _≤_, _<_}
 use native.Mathlib.Omega.{arith}
 use lib.ListN.{getD}
-use lib.Dec.{T, eqb, leb}
+use lib.Dec.{T, eqb, ltb, leb}
 use borrow.Author.Tests.{eqb-true, eq-eqb, ne-eqb, lt-leb, lt-ltb}
 use Rattle.parts.specs.Parts.{pick}
 use Rattle.parts.proofs.Laws.{by-test, and-false}
@@ -22,7 +22,7 @@ use Rattle.station.specs.declared.record.Station.{Station}
 use Rattle.station.specs.declared.state.PeripheralEvent.the-variants.{Nothing as NoEvent, Offline as WentOffline}
 use Rattle.station.specs.State.{stateOf}
 use Rattle.station.specs.Visit.{visitedOf}
-use Rattle.station.proofs.Visits.{falls, asksData as wantsData}
+use Rattle.station.proofs.Visits.{falls, wish-falls, asksData as wantsData}
 use Rattle.peripheral.specs.declared.record.Peripheral.{Peripheral}
 use Rattle.peripheral.specs.Record.{blank, stationIs, inputImage}
 use Rattle.peripheral.specs.Visit.{wishesOf}
@@ -378,12 +378,15 @@ module _ (w : World) (l : List Entry) (i : Inv w l) where
       let from = startOf step (w .unit .state) in
       rw (empty-bit (w .unit .parameters .«max_retry_limit») (w .unit .occupied) s (slots - from) from nothingSeen (w .unit .peripherals) e ∙ zero-bit s) refl
 
-  bit-there : (step : Step) (s : ℕ) (o : occupied (w .unit) s) → bitSet s (sweptBy step (w .unit) .seen .mask) ≡ (swung step s o .visited && falls (wishesOf (w .unit .parameters .«max_retry_limit») (balance (w .unit) s)))
-  bit-there step s o = rw (swung step s o .mask) (one-or-none _)
+  bit-there : (step : Step) (s : ℕ) (o : occupied (w .unit) s) → let p = balance (w .unit) s in
+      bitSet s (sweptBy step (w .unit) .seen .mask) ≡ (swung step s o .visited && ltb (w .unit .parameters .«max_retry_limit») (p .station .«retry_count»))
+  bit-there step s o =
+      let p = balance (w .unit) s in
+      rw (swung step s o .mask, ← wish-falls (p .options .«has_user_parameters») (p .options .«has_config») (p .station) (w .unit .parameters .«max_retry_limit»)) (one-or-none _)
 
   module _ (step : Step) (payload buf : List ℕ) where
     pub mask-bits : (s : ℕ) → let a = turnAnswer step (sweptBy step (w .unit)) (w .unit) payload buf in
-        bitSet s (a .offline) ≡ (reached l a s && falls (wishesOf (w .unit .parameters .«max_retry_limit») (balance (w .unit) s)))
+        bitSet s (a .offline) ≡ (reached l a s && ltb (w .unit .parameters .«max_retry_limit») (balance (w .unit) s .station .«retry_count»))
     unfolding turnAnswer
     mask-bits s =
         by-test (getD (w .unit .occupied) s false) (λ o. rw (reached-visited step payload buf s o) (bit-there step s o)) (λ e. rw (reached-empty step payload buf s e) (bit-empty step s e))

@@ -1,10 +1,13 @@
--- Each of the five wrong units is told from the promised one at a named input, by computation; and the one that runs all states at the first reply breaks demand 3.
--- The idea: read one number off both outcomes; where the numbers differ the outcomes do.
+-- Each of the five wrong units is told from the promised one at a named input, by computation; which of them demand 3 admits, and which break a promise.
+-- The idea: read one number off both outcomes; where the numbers differ the outcomes do. Over an empty log no slot is occupied, so nothing is said of any.
 use mathlib.Core.Path.{_≡_, refl, sym, ap, _∙_}
-use mathlib.Core.Bool.{false}
+use mathlib.Core.Bool.{false, false≢true}
+use mathlib.Core.List.{List, [], _∷_}
 use Prim.Native.Nat.{ℕ}
 use native.Mathlib.Omega.{arith}
+use lib.Dec.{T}
 use Rattle.parts.specs.Parts.{zeros, inside, part, splice, roomFor, putIn}
+use Rattle.fdl.specs.declared.parameters.Parameters.{Parameters}
 use Rattle.fdl.specs.Params.{inRange, held}
 use Rattle.telegrams.specs.Diagnosis.{diagnosisOf}
 use Rattle.telegrams.specs.Payload.{paramHead, controlPayload}
@@ -13,21 +16,23 @@ use Rattle.station.specs.Visit.{wishOf}
 use Rattle.station.specs.Reply.{byFlags, heardOf}
 use Rattle.peripheral.specs.Visit.{payloadOf}
 use Rattle.peripheral.specs.Reply.{storedLength, diagsTaken, stationTook, isImage, hearsOf}
-use Rattle.peripheral_set.specs.Marks.{searchFrom}
+use Rattle.peripheral_set.specs.Marks.{slots, searchFrom}
 use Rattle.cycle.specs.State.{dueOf}
 use Rattle.cycle.specs.Refusal.{turnRefusal, replyRefusal, addressRefusal, lengthRefusal, roomRefusal, addRefusal}
+use Rattle.answers.specs.declared.turn.TurnAnswer.{TurnAnswer}
 use Rattle.answers.specs.declared.turn.Transmission.{Transmission}
 use Rattle.answers.specs.declared.turn.Transmission.the-variants.{Nothing, Control, Request}
 use Rattle.master.specs.Unit.{emptyUnit, createdOf, balanceAt}
 use Rattle.master.specs.Turn.{sweepFrom, sweptBy, turnPayload, turnAnswer}
 use Rattle.master.specs.Reply.{replyAt}
-use Rattle.log.specs.Calls.{Outcome, refusal, step}
-use Rattle.log.specs.Words.{turnOf, slotLog}
+use Rattle.log.specs.Calls.{Pools, World, Call, add, enter, turn, reply, reset, wish, write, hand, Outcome, refusal, accepted, step}
+use Rattle.log.specs.Words.{turnOf, slotLog, occupiedIn, reached}
 use Rattle.log.specs.Run.{runBy}
-use Rattle.log.specs.Promises.{AskedBy}
-use Rattle.log.specs.Life.{bench, benchPools, turnAt, diagnosisReply, diagnosisAnswered, startedBench, askedBench}
-use Rattle.log.specs.Wrong.{refusesAll, sameAnswer, doesNothing, runsAll, inventsMask}
+use Rattle.log.specs.Promises.{ImageAt, ImageBy, AskedAt, AskedBy, MaskBy}
+use Rattle.log.specs.Life.{bench, benchPools, turnAt, diagnosisReply, diagnosisAnswered, started, startedBench, askedBench}
+use Rattle.log.specs.Wrong.{plain, refusesAll, sameAnswer, doesNothing, runsAll, inventsMask}
 use Rattle.log.proofs.Wording.{wording}
+use Rattle.log.proofs.Promised.{no-mark}
 
 -- what a turn sends: 0 nothing, 1 the global control, 2 a request
 abbrev sends : Transmission → ℕ
@@ -70,3 +75,37 @@ unfolding step inRange held createdOf emptyUnit addRefusal addressRefusal length
 runs-all-breaks told =
     let both = told bench benchPools diagnosisAnswered 3 false 4 2 (zeros 244) 0 tt tt .0 tt in
     wording (slotLog 0 (runBy runsAll bench benchPools diagnosisAnswered .log)) .1 (both .1)
+
+-- the fifth breaks the mask: bit 2 is set, and nobody was reached
+pub invents-mask-breaks : MaskBy inventsMask → ⊥
+unfolding step inRange held createdOf emptyUnit addRefusal addressRefusal lengthRefusal roomRefusal searchFrom turnRefusal dueOf wishOf sweptBy sweepFrom turnPayload turnAnswer controlPayload payloadOf paramHead inside part splice roomFor putIn replyRefusal replyAt hearsOf heardOf stationTook storedLength diagsTaken diagnosisOf tookOf isImage byFlags
+invents-mask-breaks told = false≢true (sym (told bench benchPools started 0 false 4 2 (zeros 244) .bits 2))
+
+-- ---- over an empty log demand 3 admits every unit
+
+nobody : (s : ℕ) → T (occupiedIn [] s) → ⊥
+nobody s h = rw (no-mark slots s) at h
+
+nobody-reached : (a : TurnAnswer) (s : ℕ) → T (reached [] a s) → ⊥
+nobody-reached a s h = rw (no-mark slots s) at h
+
+pub empty-admits : (f : World → Call → Outcome) (u : Parameters) (pools : Pools) (cs : List Call) → runBy f u pools cs .log ≡ [] → ImageAt f u pools cs × AskedAt f u pools cs
+empty-admits f u pools cs e = (λ s h. absurd (nobody s (rw e at h)), λ time high ns nq buf s r t. absurd (nobody-reached (turnOf (f (runBy f u pools cs .world) (turn time high ns nq buf) .answer)) s (rw e at r)))
+
+-- the first has no other log
+refused : (c : Call) → accepted (plain 2 255 c) ≡ false
+refused (add a user config lent) = refl
+refused (enter o) = refl
+refused (turn time high ns nq buf) = refl
+refused (reply address t payload ni nd) = refl
+refused (reset h address) = refl
+refused (wish h) = refl
+refused (write h bytes nq) = refl
+refused (hand h bytes nq) = refl
+
+no-log : (u : Parameters) (pools : Pools) (cs : List Call) → runBy refusesAll u pools cs .log ≡ []
+no-log u pools [] = refl
+no-log u pools (c ∷ cs) = rw (refused c) (no-log u pools cs)
+
+pub refuses-all-admitted : ImageBy refusesAll × AskedBy refusesAll
+refuses-all-admitted = (λ u pools cs. empty-admits refusesAll u pools cs (no-log u pools cs) .0, λ u pools cs. empty-admits refusesAll u pools cs (no-log u pools cs) .1)

@@ -4,25 +4,28 @@
 use mathlib.Core.Path.{_≡_}
 use mathlib.Core.Logic.{_↔_}
 use Prim.Native.Nat.{ℕ, _<_, _^_}
-use mathlib.Core.Bool.{Bool, false, not, _&&_}
+use mathlib.Core.Bool.{Bool, true, false, not, _&&_}
 use mathlib.Core.List.{List, []}
 use mathlib.Core.Option.{some}
 use lib.ListN.{length}
 use lib.Dec.{T, eqb, ltb}
 use Rattle.parts.specs.Parts.{pick}
 use Rattle.fdl.specs.declared.parameters.Parameters.{Parameters}
+use Rattle.fdl.specs.declared.telegram.Telegram.{Telegram}
 use Rattle.station.specs.declared.state.PeripheralEvent.the-variants.{Nothing as NoEvent, Offline}
 use Rattle.peripheral.specs.Record.{inputImage}
 use Rattle.peripheral_set.specs.declared.PeripheralHandle.{PeripheralHandle}
 use Rattle.peripheral_set.specs.Marks.{slots}
+use Rattle.cycle.specs.declared.refusal.Lent.{Lent}
 use Rattle.cycle.specs.State.{operatingOf}
 use Rattle.answers.specs.declared.turn.TurnAnswer.{TurnAnswer}
 use Rattle.answers.specs.Turn.{refusedTurn}
 use Rattle.master.specs.declared.unit.DpMaster.{DpMaster}
+use Rattle.master.specs.declared.add.Addition.{Addition}
 use Rattle.access.specs.Lookup.{foundIn}
 use Rattle.valid.specs.Valid.{Valid, Apart, balance}
-use Rattle.log.specs.Calls.{Call, turn, turned, Pools, World, Outcome, accepted, refusal, lend, step}
-use Rattle.log.specs.Words.{Entry, turnOf, slotAsked, isOffline, bitSet, reportedOffline, slotLog, Frame, frameOf, occupiedIn, reached, imageOf, Due, Ready, asksData}
+use Rattle.log.specs.Calls.{Call, add, turn, reply, turned, Pools, World, Outcome, accepted, refusal, lend, step}
+use Rattle.log.specs.Words.{Entry, turnOf, slotGiven, slotAsked, isOffline, bitSet, reportedOffline, slotLog, Frame, frameOf, occupiedIn, FirstEmpty, Moved, reached, imageOf, Due, Ready, asksData}
 use Rattle.log.specs.Run.{runBy, run, acceptedOf}
 use Rattle.log.specs.Made.{Allowed, Made}
 
@@ -44,9 +47,15 @@ frameIn m =
 -- ---- IMAGE: of every slot that the log says is occupied, the input image is the payload of the newest reply reported DataExchanged since the slot was added,
 -- else zeros of its length
 
+-- said of what calls do by f, so that it can be said of wrong units too
+abbrev pub ImageAt : (World → Call → Outcome) → Parameters → Pools → List Call → Type 0
+ImageAt f u pools cs = (s : ℕ) → let r = runBy f u pools cs in T (occupiedIn (r .log) s) → imageIn (r .world) s ≡ imageOf (slotLog s (r .log))
+
+abbrev pub ImageBy : (World → Call → Outcome) → Type 0
+ImageBy f = (u : Parameters) (pools : Pools) (cs : List Call) → ImageAt f u pools cs
+
 abbrev pub ImageTold : Type 0
-ImageTold = (u : Parameters) (pools : Pools) (cs : List Call) (s : ℕ) → T (occupiedIn (run u pools cs .log) s)
-    → imageIn (run u pools cs .world) s ≡ imageOf (slotLog s (run u pools cs .log))
+ImageTold = ImageBy step
 
 -- and it is what `pi_i` hands out: r is any result that its contract allows, where the pool that is lent has its length
 abbrev pub ReadTold : Type 0
@@ -59,12 +68,15 @@ ReadTold = (u : Parameters) (pools : Pools) (cs : List Call) (h : PeripheralHand
 -- ---- ASKED: at a turn that reaches it without reporting it Offline, a balance is asked for data exactly when no diagnosis is due and, since its last fall,
 -- the log holds acknowledged parameters, later acknowledged configuration, later a clean diagnosis with no "SAP not enabled" after it
 
--- said of what calls do by f, so that it can be said of wrong units too; a is what the turn answers
-abbrev pub AskedBy : (World → Call → Outcome) → Type 0
-AskedBy f = (u : Parameters) (pools : Pools) (cs : List Call) (time : ℕ) (high : Bool) (ns nq : ℕ) (buf : List ℕ) (s : ℕ)
+-- a is what the turn answers
+abbrev pub AskedAt : (World → Call → Outcome) → Parameters → Pools → List Call → Type 0
+AskedAt f u pools cs = (time : ℕ) (high : Bool) (ns nq : ℕ) (buf : List ℕ) (s : ℕ)
     → let log = runBy f u pools cs .log in
     let a = turnOf (f (runBy f u pools cs .world) (turn time high ns nq buf) .answer) in
     T (reached log a s) → T (not (reportedOffline s a)) → T (asksData s (a .transmission)) ↔ ((Due (slotLog s log) → ⊥) × Ready (slotLog s log))
+
+abbrev pub AskedBy : (World → Call → Outcome) → Type 0
+AskedBy f = (u : Parameters) (pools : Pools) (cs : List Call) → AskedAt f u pools cs
 
 abbrev pub AskedTold : Type 0
 AskedTold = AskedBy step
@@ -104,6 +116,16 @@ MaskTold = MaskBy step
 -- operating state, occupied slots and place are what the log says
 abbrev pub FrameTold : Type 0
 FrameTold = (u : Parameters) (pools : Pools) (cs : List Call) → frameIn (run u pools cs .world .unit) ≡ frameOf (run u pools cs .log)
+
+-- an accepted add takes the first empty slot
+abbrev pub FirstTold : Type 0
+FirstTold = (u : Parameters) (pools : Pools) (cs : List Call) (a : Addition) (user config : List ℕ) (lent : Lent) → let r = run u pools cs in
+    let x = step (r .world) (add a user config lent) .answer in accepted x ≡ true → FirstEmpty (r .log) (slotGiven x)
+
+-- an accepted reply moves the place to the next occupied slot
+abbrev pub NextTold : Type 0
+NextTold = (u : Parameters) (pools : Pools) (cs : List Call) (address : ℕ) (t : Telegram) (payload : List ℕ) (ni nd : ℕ) → let r = run u pools cs in
+    let o = step (r .world) (reply address t payload ni nd) in accepted (o .answer) ≡ true → Moved (r .log) (frameIn (o .world .unit) .place)
 
 -- a refused call changes neither the unit nor a byte of a pool, nor, if it is a turn, of the payload buffer
 abbrev pub RefusedSame : Type 0

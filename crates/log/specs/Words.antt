@@ -1,5 +1,6 @@
 -- The log, and each word of it as a function of the log alone: nothing here names a unit, a pool, a visit or `step`.
 -- From 01, "Words of the log". A log is newest first, and so are the notes that it holds of one slot.
+use mathlib.Core.Path.{_≡_}
 use Prim.Native.Nat.{ℕ, _<_, _≤_, _/_, _%_, _^_}
 use mathlib.Core.Bool.{Bool, true, false, not, _&&_, _||_}
 use mathlib.Core.List.{List, [], _∷_}
@@ -190,6 +191,19 @@ frameOf (e ∷ l) = frameAfter (e .call) (e .answer) (target l) (frameOf l)
 
 abbrev pub occupiedIn : List Entry → ℕ → Bool
 occupiedIn l s = getD (frameOf l .marks) s false
+
+-- the first empty slot: none before it is empty
+pub record FirstEmpty (l : List Entry) (s : ℕ) : Type 0 where
+  pub slot : s < slots
+  pub empty : T (not (occupiedIn l s))
+  pub before : (t : ℕ) → t < s → T (occupiedIn l t)
+
+-- the place after a reply: at the next occupied slot after the one that the newest turn asked, with no occupied slot between; with none, the cycle is completed
+pub record Moved (l : List Entry) (p : Place) : Type 0 where
+  pub slot : ℕ
+  pub newest : target l ≡ some slot
+  pub next : p .past ≡ false → (slot < p .slot) × T (occupiedIn l (p .slot))
+  pub between : (s : ℕ) → slot < s → s < pick (p .past) slots (p .slot) → T (not (occupiedIn l s))
 
 -- how far the visits went: up to the slot that was asked, or to the last when none was; in steps 1 to 3 nowhere
 abbrev pub upTo : ℕ → Bool → Transmission → Bool
