@@ -33,10 +33,6 @@ use Rattle.fdl.proofs.telegram.ResponseStatus.is_usable.Kinds as K·telegram-Re
 use Rattle.fdl.proofs.telegram.ResponseStatus.is_usable.Reads as R·telegram-ResponseStatus-is-usable
 use Rattle.fdl.proofs.telegram.ResponseStatus.is_data.Kinds as K·telegram-ResponseStatus-is-data
 use Rattle.fdl.proofs.telegram.ResponseStatus.is_data.Reads as R·telegram-ResponseStatus-is-data
-use Rattle.fdl.proofs.telegram.ResponseStatus.is_due.Kinds as K·telegram-ResponseStatus-is-due
-use Rattle.fdl.proofs.telegram.ResponseStatus.is_due.Reads as R·telegram-ResponseStatus-is-due
-use Rattle.fdl.proofs.telegram.ResponseStatus.is_not_enabled.Kinds as K·telegram-ResponseStatus-is-not-enabled
-use Rattle.fdl.proofs.telegram.ResponseStatus.is_not_enabled.Reads as R·telegram-ResponseStatus-is-not-enabled
 use Rattle.fdl.proofs.telegram.Telegram.has_data.Kinds as K·telegram-Telegram-has-data
 use Rattle.fdl.proofs.telegram.Telegram.has_data.Reads as R·telegram-Telegram-has-data
 use Rattle.fdl.proofs.telegram.Telegram.is_usable.Kinds as K·telegram-Telegram-is-usable
@@ -86,12 +82,6 @@ telegram-ResponseStatus-is-usable κs a z y e f p q = same p q
 
 pub telegram-ResponseStatus-is-data : Coincide 0 K·telegram-ResponseStatus-is-data.ps K·telegram-ResponseStatus-is-data.r R·telegram-ResponseStatus-is-data.Learnt (λ κs z y e f. z ≡ y)
 telegram-ResponseStatus-is-data κs a z y e f p q = same p q
-
-pub telegram-ResponseStatus-is-due : Coincide 0 K·telegram-ResponseStatus-is-due.ps K·telegram-ResponseStatus-is-due.r R·telegram-ResponseStatus-is-due.Learnt (λ κs z y e f. z ≡ y)
-telegram-ResponseStatus-is-due κs a z y e f p q = same p q
-
-pub telegram-ResponseStatus-is-not-enabled : Coincide 0 K·telegram-ResponseStatus-is-not-enabled.ps K·telegram-ResponseStatus-is-not-enabled.r R·telegram-ResponseStatus-is-not-enabled.Learnt (λ κs z y e f. z ≡ y)
-telegram-ResponseStatus-is-not-enabled κs a z y e f p q = same p q
 
 pub telegram-Telegram-has-data : Coincide 0 K·telegram-Telegram-has-data.ps K·telegram-Telegram-has-data.r R·telegram-Telegram-has-data.Learnt (λ κs z y e f. z ≡ y)
 telegram-Telegram-has-data κs a z y e f p q = same p q

@@ -34,16 +34,12 @@ use Rattle.peripheral.proofs.record.Peripheral.handle_diagnostics_response.Kind
 use Rattle.peripheral.proofs.record.Peripheral.handle_diagnostics_response.Reads as R·record-Peripheral-handle-diagnostics-response
 use Rattle.peripheral.proofs.record.Peripheral.receive_reply.Kinds as K·record-Peripheral-receive-reply
 use Rattle.peripheral.proofs.record.Peripheral.receive_reply.Reads as R·record-Peripheral-receive-reply
-use Rattle.peripheral.proofs.record.Peripheral.wish.Kinds as K·record-Peripheral-wish
-use Rattle.peripheral.proofs.record.Peripheral.wish.Reads as R·record-Peripheral-wish
-use Rattle.peripheral.proofs.record.Peripheral.visited.Kinds as K·record-Peripheral-visited
-use Rattle.peripheral.proofs.record.Peripheral.visited.Reads as R·record-Peripheral-visited
+use Rattle.peripheral.proofs.record.Peripheral.visit.Kinds as K·record-Peripheral-visit
+use Rattle.peripheral.proofs.record.Peripheral.visit.Reads as R·record-Peripheral-visit
 use Rattle.peripheral.proofs.record.Peripheral.header.Kinds as K·record-Peripheral-header
 use Rattle.peripheral.proofs.record.Peripheral.header.Reads as R·record-Peripheral-header
 use Rattle.peripheral.proofs.record.Peripheral.write_payload.Kinds as K·record-Peripheral-write-payload
 use Rattle.peripheral.proofs.record.Peripheral.write_payload.Reads as R·record-Peripheral-write-payload
-use Rattle.peripheral.proofs.record.Peripheral.transmit_telegram.Kinds as K·record-Peripheral-transmit-telegram
-use Rattle.peripheral.proofs.record.Peripheral.transmit_telegram.Reads as R·record-Peripheral-transmit-telegram
 
 pub record-Peripheral-blank : Coincide 0 K·record-Peripheral-blank.ps K·record-Peripheral-blank.r R·record-Peripheral-blank.Learnt (λ κs z y e f. z ≡ y)
 record-Peripheral-blank κs a z y e f p q = same p q
@@ -90,17 +86,11 @@ record-Peripheral-handle-diagnostics-response κs a z y e f p q = (rw (same (p .
 pub record-Peripheral-receive-reply : Coincide 3 K·record-Peripheral-receive-reply.ps K·record-Peripheral-receive-reply.r R·record-Peripheral-receive-reply.Learnt (λ κs z y e f. (z ≡ y) × (now (e .1 .1 .1 .0) ≡ now (f .1 .1 .1 .0)) × (now (e .1 .1 .1 .1 .0) ≡ now (f .1 .1 .1 .1 .0)))
 record-Peripheral-receive-reply κs a z y e f p q = (same (p .answer) (q .answer), same (p .inputPool) (q .inputPool), same (p .diagPool) (q .diagPool))
 
-pub record-Peripheral-wish : Coincide 0 K·record-Peripheral-wish.ps K·record-Peripheral-wish.r R·record-Peripheral-wish.Learnt (λ κs z y e f. z ≡ y)
-record-Peripheral-wish κs a z y e f p q = same p q
-
-pub record-Peripheral-visited : Coincide 0 K·record-Peripheral-visited.ps K·record-Peripheral-visited.r R·record-Peripheral-visited.Learnt (λ κs z y e f. z ≡ y)
-record-Peripheral-visited κs a z y e f p q = same p q
+pub record-Peripheral-visit : Coincide 0 K·record-Peripheral-visit.ps K·record-Peripheral-visit.r R·record-Peripheral-visit.Learnt (λ κs z y e f. z ≡ y)
+record-Peripheral-visit κs a z y e f p q = same p q
 
 pub record-Peripheral-header : Coincide 0 K·record-Peripheral-header.ps K·record-Peripheral-header.r R·record-Peripheral-header.Learnt (λ κs z y e f. z ≡ y)
 record-Peripheral-header κs a z y e f p q = same p q
 
 pub record-Peripheral-write-payload : Coincide 3 K·record-Peripheral-write-payload.ps K·record-Peripheral-write-payload.r R·record-Peripheral-write-payload.Learnt (λ κs z y e f. (z ≡ y) × (now (e .1 .1 .1 .1 .1 .1 .0) ≡ now (f .1 .1 .1 .1 .1 .1 .0)))
 record-Peripheral-write-payload κs a z y e f p q = (same (p .len) (q .len), same (p .bytes) (q .bytes))
-
-pub record-Peripheral-transmit-telegram : Coincide 3 K·record-Peripheral-transmit-telegram.ps K·record-Peripheral-transmit-telegram.r R·record-Peripheral-transmit-telegram.Learnt (λ κs z y e f. (z .peripheral ≡ y .peripheral) × (z .what ≡ y .what) × (now (e .1 .1 .1 .1 .1 .0) ≡ now (f .1 .1 .1 .1 .1 .0)))
-record-Peripheral-transmit-telegram κs a z y e f p q = (same (p .after) (q .after), same (p .happened) (q .happened), same (p .bytes) (q .bytes))

@@ -1,7 +1,7 @@
 // Requests and replies as values: no bytes on a wire here.
 ghost use mathlib.Core.Path.{_≡_};
 ghost use Rattle.fdl.specs.Bits.{cycled, fcbOf, fcvOf, bitNumber, bitOf, requestNumber};
-ghost use Rattle.fdl.specs.Reply.{statusOf, usableStatus, dataStatus, dueStatus, notEnabled, hasData, usableReply};
+ghost use Rattle.fdl.specs.Reply.{statusOf, usableStatus, dataStatus, hasData, usableReply};
 use crate::consts::Sap;
 
 // The bit that tells a repeated request from a new one; inactive in global control.
@@ -156,33 +156,6 @@ impl ResponseStatus {
             ResponseStatus::SapNotEnabled => false,
             ResponseStatus::DataLow => true,
             ResponseStatus::DataHigh => true,
-            ResponseStatus::Other => false,
-            ResponseStatus::Unusable => false,
-        }
-    }
-
-    // Whether it makes a diagnosis due.
-    pub fn is_due(self) -> bool
-        ensures { λ r. ⌜ r ≡ dueStatus self ⌝ }
-    {
-        match self {
-            ResponseStatus::Ok => false,
-            ResponseStatus::SapNotEnabled => false,
-            ResponseStatus::DataLow => false,
-            ResponseStatus::DataHigh => true,
-            ResponseStatus::Other => false,
-            ResponseStatus::Unusable => false,
-        }
-    }
-
-    pub fn is_not_enabled(self) -> bool
-        ensures { λ r. ⌜ r ≡ notEnabled self ⌝ }
-    {
-        match self {
-            ResponseStatus::Ok => false,
-            ResponseStatus::SapNotEnabled => true,
-            ResponseStatus::DataLow => false,
-            ResponseStatus::DataHigh => false,
             ResponseStatus::Other => false,
             ResponseStatus::Unusable => false,
         }

@@ -22,13 +22,13 @@ use Rattle.station.specs.declared.visit.Visited.the-variants.{Sent as Sends, Fe
 use Rattle.station.proofs.Visits.{falls}
 use Rattle.peripheral.specs.declared.record.Peripheral.{Peripheral}
 use Rattle.peripheral.specs.Record.{blank}
-use Rattle.peripheral.specs.Visit.{wishesOf}
+use Rattle.peripheral.specs.Visit.{wishesOf, visitedBy}
 use Rattle.peripheral_set.specs.Marks.{slots}
 use Rattle.cycle.specs.declared.seen.Seen.{Seen}
 use Rattle.cycle.specs.declared.seen.Sent.{Sent}
 use Rattle.cycle.specs.declared.seen.Sent.the-variants.{Nothing, To}
 use Rattle.cycle.specs.Seen.{bitAt, nothingSeen, seenBy, idle}
-use Rattle.master.specs.Turn.{Swept, visitedBy, sweepFrom}
+use Rattle.master.specs.Turn.{Swept, sweepFrom}
 use Rattle.master.proofs.Bits.{bit, or-bit, pow-bit-same, pow-bit-below, pow-bit-above, zero-bit}
 use Rattle.master.proofs.Sweep.{sweep-skip, sweep-visit, sweep-stopped}
 

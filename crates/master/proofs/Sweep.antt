@@ -12,8 +12,9 @@ use lib.ListN.{getD, set}
 use Rattle.parts.specs.Parts.{pick}
 use Rattle.parts.proofs.Laws.{by-test, and-false}
 use Rattle.peripheral.specs.declared.record.Peripheral.{Peripheral}
+use Rattle.peripheral.specs.declared.visit.Visit.{Visit}
 use Rattle.peripheral.specs.Record.{blank}
-use Rattle.peripheral.specs.Visit.{wishesOf}
+use Rattle.peripheral.specs.Visit.{wishesOf, visitedBy, visitOf}
 use Rattle.peripheral_set.specs.Marks.{slots, sameMark, searchFrom, nextAfter}
 use Rattle.peripheral_set.proofs.Laws.{search-found, search-from}
 use Rattle.cycle.specs.declared.seen.Seen.{Seen}
@@ -22,7 +23,7 @@ use Rattle.cycle.specs.declared.seen.Sent.the-variants.{Nothing, To}
 use Rattle.cycle.specs.Seen.{seenBy, idle, nextIn}
 use Rattle.master.specs.declared.unit.DpMaster.{DpMaster}
 use Rattle.master.specs.Unit.{balancesAre}
-use Rattle.master.specs.Turn.{Swept, visitedBy, sweepFrom}
+use Rattle.master.specs.Turn.{Swept, sweepFrom}
 
 module _ (limit : ℕ) (marks : List Bool) where
   -- with one slot more
@@ -109,14 +110,15 @@ module _ (limit : ℕ) (marks : List Bool) where
   next-waiting Nothing i h = refl
   next-waiting (To slot k) i h = absurd (omega arith)
 
-  -- one visit: q is the balance afterwards, next the slot where the visits go on
-  pub sweeping-goes-on : (all : Swept) (m₀ m : DpMaster) (seen seen′ : Seen) (i next : ℕ) (q : Peripheral) → i < slots → Sweeping limit marks all m₀ m seen i
-      → q ≡ visitedBy limit (getD (m .peripherals) i blank) → seen′ ≡ seenBy i (wishesOf limit (getD (m .peripherals) i blank)) seen → next ≡ nextIn (seen′ .sent) marks i
-      → Sweeping limit marks all m₀ (balancesAre (set (m .peripherals) i q) m) seen′ next
-  sweeping-goes-on all m₀ m seen seen′ i next q h s eq es en =
+  -- one visit v; next is the slot where the visits go on
+  pub sweeping-goes-on : (all : Swept) (m₀ m : DpMaster) (seen seen′ : Seen) (i next : ℕ) (v : Visit) → i < slots → Sweeping limit marks all m₀ m seen i
+      → v ≡ visitOf limit (getD (m .peripherals) i blank) → seen′ ≡ seenBy i (v .what) seen → next ≡ nextIn (seen′ .sent) marks i
+      → Sweeping limit marks all m₀ (balancesAre (set (m .peripherals) i (v .peripheral)) m) seen′ next
+  sweeping-goes-on all m₀ m seen seen′ i next v h s ev es en =
+      let q : Peripheral = v .peripheral in
       let z : slots - i ≡ suc (slots - (i + 1)) = omega arith in
       let visit : sweepFrom (slots - (i + 1)) limit marks (i + 1) seen′ (set (m .peripherals) i q) ≡ all =
-      rw (es, eq) (sym (sweep-visit limit marks (slots - (i + 1)) i seen (m .peripherals) (s .marked h) (s .waiting h)) ∙ (rw z at (s .whole))) in
+      rw (es, ev) (sym (sweep-visit limit marks (slots - (i + 1)) i seen (m .peripherals) (s .marked h) (s .waiting h)) ∙ (rw z at (s .whole))) in
       record {
         rest = ap (balancesAre (set (m .peripherals) i q)) (s .rest);
         whole = rw en (next-whole (seen′ .sent) seen′ (set (m .peripherals) i q) i refl ∙ visit);

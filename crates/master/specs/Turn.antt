@@ -7,11 +7,9 @@ use mathlib.Core.List.{List}
 use lib.ListN.{length, getD, set}
 use lib.Dec.{eqb}
 use Rattle.parts.specs.Parts.{pick, putIn}
-use Rattle.station.specs.declared.visit.Visited.{Visited}
-use Rattle.station.specs.Visit.{visitedOf}
 use Rattle.peripheral.specs.declared.record.Peripheral.{Peripheral}
-use Rattle.peripheral.specs.Record.{blank, stationIs}
-use Rattle.peripheral.specs.Visit.{wishesOf}
+use Rattle.peripheral.specs.Record.{blank}
+use Rattle.peripheral.specs.Visit.{wishesOf, visitedBy}
 use Rattle.peripheral_set.specs.Marks.{slots}
 use Rattle.cycle.specs.declared.seen.Seen.{Seen}
 use Rattle.cycle.specs.declared.state.Step.{Step}
@@ -29,10 +27,6 @@ use Rattle.master.specs.Unit.{stateIs, balancesAre, balanceAt}
 pub record Swept : Type 0 where
   pub seen : Seen
   pub balances : List Peripheral
-
--- a balance after a visit with a limit
-abbrev pub visitedBy : ℕ → Peripheral → Peripheral
-visitedBy limit p = stationIs (visitedOf (wishesOf limit p) (p .station)) p
 
 -- n slots from i upward: each that is occupied is visited while nothing was sent yet
 unfoldable pub sweepFrom : ℕ → ℕ → List Bool → ℕ → Seen → List Peripheral → Swept

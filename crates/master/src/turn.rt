@@ -44,8 +44,9 @@ impl DpMaster {
         let mut i = peripheral_set::at_or_after(marks, s.start(step));
         while i < SLOTS {
             let p = m.peripherals[i];
-            let what = p.wish(u.max_retry_limit);
-            let q = p.visited(what);
+            let v = p.visit(u.max_retry_limit);
+            let q = v.peripheral;
+            let what = v.what;
             m.peripherals[i] = q;
             seen = seen.visited(i as u8, what);
             i = seen.next(marks, i);

@@ -1,9 +1,7 @@
 // The visit that a turn makes to a peripheral.
 ghost use mathlib.Core.Path.{_≡_};
-ghost use Rattle.station.specs.Visit.{visitedOf};
 ghost use Rattle.telegrams.specs.Payload.{Written};
-ghost use Rattle.peripheral.specs.Record.{stationIs};
-ghost use Rattle.peripheral.specs.Visit.{wishesOf, requestHeader, payloadOf, Transmitted};
+ghost use Rattle.peripheral.specs.Visit.{visitOf, requestHeader, payloadOf};
 use crate::record::Peripheral;
 use fdl::parameters::Parameters;
 use fdl::telegram::DataTelegramHeader;
@@ -11,42 +9,28 @@ use fdl::telegram::FrameCountBit;
 use station::visit::Visited;
 use telegrams::request::Request;
 
-// What happened at a visit.
-pub enum Happened {
-    Sent {
-        kind: Request,
-        header: DataTelegramHeader,
-        len: usize,
-    },
-    Offline,
-    Skipped,
-}
-
-// The peripheral after a visit, and what happened.
+// The peripheral after a visit, and what the visit does.
 pub struct Visit {
     pub peripheral: Peripheral,
-    pub what: Happened,
+    pub what: Visited,
 }
 
 impl Peripheral {
-    // What this visit does.
-    pub fn wish(self, limit: u8) -> Visited
-        ensures { λ r. ⌜ r ≡ wishesOf limit self ⌝ }
+    // The visit hands the peripheral back: the turn stores it, and sends what it answers.
+    pub fn visit(self, limit: u8) -> Visit
+        ensures { λ r. ⌜ r ≡ visitOf limit self ⌝ }
     {
-        self.station.wish(
+        let what = self.station.wish(
             limit,
             self.options.has_user_parameters,
             self.options.has_config,
-        )
-    }
-
-    // The peripheral after that visit.
-    pub fn visited(self, what: Visited) -> Peripheral
-        ensures { λ r. ⌜ r ≡ stationIs (visitedOf what (self .station)) self ⌝ }
-    {
+        );
         let mut p = self;
         p.station = self.station.visited(what);
-        p
+        Visit {
+            peripheral: p,
+            what: what,
+        }
     }
 
     // The header of a request to it, from the station `own`.
@@ -92,43 +76,6 @@ impl Peripheral {
                 }
                 telegrams::write::write_bytes(image, buf)
             }
-        }
-    }
-
-    // The visit: what it does, the record afterwards, and the payload at the front of `buf`.
-    pub fn transmit_telegram(
-        self,
-        u: Parameters,
-        clear: bool,
-        setup: &[u8],
-        outputs: &[u8],
-        buf: &mut [u8],
-    ) -> Visit
-        ensures { λ r. ⌜ Transmitted u clear self (now (setup .entry)) (now (outputs .entry)) (now (buf .entry)) (now (buf .exit)) r ⌝ }
-    {
-        let what = self.wish(u.max_retry_limit);
-        let p = self.visited(what);
-        match what {
-            Visited::Sent(kind) => {
-                let header = self.header(kind, u.address);
-                let len = self.write_payload(kind, u, clear, setup, outputs, buf);
-                Visit {
-                    peripheral: p,
-                    what: Happened::Sent {
-                        kind: kind,
-                        header: header,
-                        len: len,
-                    },
-                }
-            }
-            Visited::Fell => Visit {
-                peripheral: p,
-                what: Happened::Offline,
-            },
-            Visited::Skipped => Visit {
-                peripheral: p,
-                what: Happened::Skipped,
-            },
         }
     }
 }

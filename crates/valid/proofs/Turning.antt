@@ -18,7 +18,7 @@ use Rattle.station.specs.declared.visit.Visited.the-variants.{Sent as Sends, Fe
 use Rattle.station.proofs.Visits.{visit-keeps}
 use Rattle.peripheral.specs.declared.record.Peripheral.{Peripheral}
 use Rattle.peripheral.specs.Record.{blank}
-use Rattle.peripheral.specs.Visit.{wishesOf}
+use Rattle.peripheral.specs.Visit.{wishesOf, visitedBy}
 use Rattle.peripheral_set.specs.Marks.{slots}
 use Rattle.cycle.specs.declared.seen.Seen.{Seen}
 use Rattle.cycle.specs.declared.seen.Sent.{Sent}
@@ -33,7 +33,7 @@ use Rattle.cycle.proofs.Laws.{passed, after}
 use Rattle.master.specs.declared.unit.DpMaster.{DpMaster}
 use Rattle.master.specs.declared.turn.Turn.{Turn}
 use Rattle.master.specs.Unit.{stateIs, balancesAre}
-use Rattle.master.specs.Turn.{Swept, visitedBy, sweepFrom, stepAt, sweptBy, unitTurned, Turned}
+use Rattle.master.specs.Turn.{Swept, sweepFrom, stepAt, sweptBy, unitTurned, Turned}
 use Rattle.valid.specs.Valid.{Sound, Valid, occupied}
 use Rattle.valid.proofs.Stations.{sound-visit}
 use Rattle.valid.proofs.Balances.{Next, next-same, next-next, GoneOn, valid-on, marked-below}

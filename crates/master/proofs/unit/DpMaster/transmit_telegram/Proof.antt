@@ -50,11 +50,8 @@ mul-p c = search needs
 element-copy-out-p : tie.Need-element-copy-out-p Inv-loop μ-loop
 element-copy-out-p c = search needs
 
-wish-requires : tie.Need-wish-requires Inv-loop μ-loop
-wish-requires c κs = search needs
-
-visited-requires : tie.Need-visited-requires Inv-loop μ-loop
-visited-requires c κs = search needs
+visit-requires : tie.Need-visit-requires Inv-loop μ-loop
+visit-requires c κs = search needs
 
 mul-q : tie.Need-mul-q Inv-loop μ-loop
 mul-q c = search needs
@@ -65,22 +62,22 @@ element-set-from-q c = search needs
 cast-visited : tie.Need-cast-visited Inv-loop μ-loop
 cast-visited c = search needs
 
-visited-requires-2 : tie.Need-visited-requires-2 Inv-loop μ-loop
-visited-requires-2 c κs = search needs
+visited-requires : tie.Need-visited-requires Inv-loop μ-loop
+visited-requires c κs = search needs
 
 next-requires : tie.Need-next-requires Inv-loop μ-loop
 next-requires c κs = search needs
 
 loop-less : tie.Need-loop-less Inv-loop μ-loop
 loop-less c =
-    let a = c .before .before .before .before .before .before .before .before .before .before .before .before .before .before .before .before .before .before .before .args in falls (a .self .parameters .«max_retry_limit») (a .self .occupied) (c .before .visited2 .result .sent) (c .before .before .before .before .before .before .loop .i) (c .next .result) (c .before .before .before .before .before .loop-test .taken) (c .next .ensures)
+    let a = c .before .before .before .before .before .before .before .before .before .before .before .before .before .before .before .before .before .before .before .args in falls (a .self .parameters .«max_retry_limit») (a .self .occupied) (c .before .visited .result .sent) (c .before .before .before .before .before .before .loop .i) (c .next .result) (c .before .before .before .before .before .loop-test .taken) (c .next .ensures)
 
 loop-again : tie.Need-loop-again Inv-loop μ-loop
 loop-again c =
     let a = c .before .before .before .before .before .before .before .before .before .before .before .before .before .before .before .before .before .before .before .args in
     let l = c .before .before .before .before .before .before .loop in
-    sweeping-goes-on (a .self .parameters .«max_retry_limit») (a .self .occupied) _ (a .self) (l .m) (l .seen) (c .before .visited2 .result) (l .i) (c .next .result) (c .before .before .visited .result) (c .before .before .before .before .before .loop-test .taken) (l .inv)
-    (rw (c .before .before .before .wish .ensures) at (c .before .before .visited .ensures)) (rw (c .before .before .before .wish .ensures) at (c .before .visited2 .ensures)) (c .next .ensures)
+    sweeping-goes-on (a .self .parameters .«max_retry_limit») (a .self .occupied) _ (a .self) (l .m) (l .seen) (c .before .visited .result) (l .i) (c .next .result) (c .before .before .before .visit .result) (c .before .before .before .before .before .loop-test .taken) (l .inv)
+    (c .before .before .before .visit .ensures) (c .before .visited .ensures) (c .next .ensures)
 
 after-turn-requires : tie.Need-after-turn-requires Inv-loop μ-loop
 after-turn-requires c κs = search needs
@@ -149,12 +146,11 @@ transmit-telegram-spec =
     loop-holds
     mul-p
     element-copy-out-p
-    wish-requires
-    visited-requires
+    visit-requires
     mul-q
     element-set-from-q
     cast-visited
-    visited-requires-2
+    visited-requires
     next-requires
     loop-less
     loop-again
