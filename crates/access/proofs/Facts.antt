@@ -1,14 +1,15 @@
--- A handle that is refused or not, and an output write.
--- The idea: the handle's number is 0 exactly where its slot is occupied.
+-- A handle that is refused or not, where a view lies, and an output write.
+-- The idea: the handle's number is 0 exactly where its slot is occupied, and a view's length is its range's where that lies in the pool.
 use mathlib.Core.Path.{_≡_, refl, sym, ap, _∙_}
 use mathlib.Core.Bool.{Bool, true, false}
 use mathlib.Core.List.{List}
-use Prim.Native.Nat.{ℕ}
+use Prim.Native.Nat.{ℕ, _+_}
 use native.Mathlib.Omega.{arith}
 use lib.ListN.{length}
-use lib.Dec.{eqb}
+use lib.Dec.{leb, eqb}
 use borrow.Author.Tests.{eq-eqb, ne-eqb}
-use Rattle.parts.specs.Parts.{pick, putIn}
+use Rattle.parts.specs.Parts.{pick, inside, viewAt, putIn}
+use Rattle.parts.proofs.Laws.{length-part, inside-leb}
 use Rattle.peripheral.specs.declared.record.Peripheral.{Peripheral}
 use Rattle.peripheral.specs.Record.{blank}
 use Rattle.peripheral_set.specs.declared.PeripheralHandle.{PeripheralHandle}
@@ -16,8 +17,9 @@ use Rattle.peripheral_set.specs.Marks.{isOccupied, handleRefusal}
 use Rattle.cycle.specs.Refusal.{unless, orElse}
 use Rattle.master.specs.declared.unit.DpMaster.{DpMaster}
 use Rattle.master.specs.Unit.{balanceAt}
+use Rattle.access.specs.declared.images.ImageRange.{ImageRange}
 use Rattle.access.specs.declared.lookup.Found.{Found}
-use Rattle.access.specs.Lookup.{foundIn, pooledRefusal, writeRefusal, Wrote}
+use Rattle.access.specs.Lookup.{foundIn, outputNumber, rangeOf, writeRefusal, Wrote}
 
 occupied-by : (b : Bool) → _≡_ {A = ℕ} (pick b 0 4) 0 → b ≡ true
 occupied-by true e = refl
@@ -26,6 +28,17 @@ occupied-by false e = absurd (omega arith)
 empty-by : (b : Bool) → (_≡_ {A = ℕ} (pick b 0 4) 0 → ⊥) → b ≡ false
 empty-by true h = absurd (h refl)
 empty-by false h = refl
+
+-- where a view lies that is not refused: at its range, which was read as a and n, or at the front
+module _ (at len : ℕ) (l : List ℕ) (a n : ℕ) (ea : a ≡ at) (en : n ≡ len) (r : Bool) (e : r ≡ leb (a + n) (length l)) where
+  lies : inside at len l ≡ r
+  lies = sym (inside-leb at len l) ∙ rw (← ea, ← en) (sym e)
+
+  pub range-in : r ≡ true → _≡_ {A = ImageRange} (record { refusal = 0; start = a; len = n }) (rangeOf 0 (viewAt at len l))
+  range-in t = rw (length-part at len l, lies ∙ t, ea, en) refl
+
+  pub range-out : r ≡ false → _≡_ {A = ImageRange} (record { refusal = 0; start = 0; len = 0 }) (rangeOf 0 (viewAt at len l))
+  range-out t = rw (length-part at len l, lies ∙ t) refl
 
 module _ (m : DpMaster) (h : PeripheralHandle) where
   pub found : (p : Peripheral) (n : ℕ) → n ≡ handleRefusal h (m .occupied) → n ≡ 0 → p ≡ balanceAt (m .peripherals) (h .slot)
@@ -42,23 +55,23 @@ module _ (m : DpMaster) (h : PeripheralHandle) where
       rw (o, four, ep) refl
 
   module _ (bytes outputs : List ℕ) where
-    refused-by : (n : ℕ) → n ≡ pooledRefusal (length outputs) (m .parameters .«output_pool») h (m .occupied) → (n ≡ 0 → ⊥) → writeRefusal m h bytes outputs ≡ n
+    refused-by : (n : ℕ) → n ≡ outputNumber m h outputs → (n ≡ 0 → ⊥) → writeRefusal m h bytes outputs ≡ n
     unfolding writeRefusal
     refused-by n en z = rw (← en, ne-eqb n 0 z) refl
 
-    pub write-refused : (n : ℕ) → n ≡ pooledRefusal (length outputs) (m .parameters .«output_pool») h (m .occupied) → (n ≡ 0 → ⊥) → Wrote m h bytes outputs outputs n
+    pub write-refused : (n : ℕ) → n ≡ outputNumber m h outputs → (n ≡ 0 → ⊥) → Wrote m h bytes outputs outputs n
     write-refused n en z = let e = refused-by n en z in record { answer = sym e; pool = rw (e, ne-eqb n 0 z) refl }
 
-    accepted : (n : ℕ) → n ≡ pooledRefusal (length outputs) (m .parameters .«output_pool») h (m .occupied) → n ≡ 0 → writeRefusal m h bytes outputs ≡ unless (eqb (length bytes) (foundIn m h .ranges .«output_len»)) 11 0
+    accepted : (n : ℕ) → n ≡ outputNumber m h outputs → n ≡ 0 → writeRefusal m h bytes outputs ≡ unless (eqb (length bytes) (foundIn m h .ranges .«output_len»)) 11 0
     unfolding writeRefusal
     accepted n en z = rw (← en, z) refl
 
-    pub write-other : (n : ℕ) → n ≡ pooledRefusal (length outputs) (m .parameters .«output_pool») h (m .occupied) → n ≡ 0 → (length bytes ≡ foundIn m h .ranges .«output_len» → ⊥) → Wrote m h bytes outputs outputs 11
+    pub write-other : (n : ℕ) → n ≡ outputNumber m h outputs → n ≡ 0 → (length bytes ≡ foundIn m h .ranges .«output_len» → ⊥) → Wrote m h bytes outputs outputs 11
     write-other n en z d =
         let e : writeRefusal m h bytes outputs ≡ 11 = accepted n en z ∙ rw (ne-eqb _ _ d) refl in
         record { answer = sym e; pool = rw e refl }
 
-    pub write-done : (n : ℕ) (out : List ℕ) → n ≡ pooledRefusal (length outputs) (m .parameters .«output_pool») h (m .occupied) → n ≡ 0 → length bytes ≡ foundIn m h .ranges .«output_len»
+    pub write-done : (n : ℕ) (out : List ℕ) → n ≡ outputNumber m h outputs → n ≡ 0 → length bytes ≡ foundIn m h .ranges .«output_len»
         → out ≡ putIn (foundIn m h .ranges .outputs) (foundIn m h .ranges .«output_len») bytes outputs → Wrote m h bytes outputs out 0
     write-done n out en z q eo =
         let e : writeRefusal m h bytes outputs ≡ 0 = accepted n en z ∙ rw (eq-eqb _ _ q) refl in

@@ -1,16 +1,16 @@
 -- What is read of a unit by handle, the output write, and the listing.
--- From 01, "Refusal numbers" (2, 4, 11, empty views), "The unit and its sizes" (the last diagnosis) and "iter".
+-- From 01, "Refusal numbers" (2, 4, 11, empty views), "The unit and its sizes" (the last diagnosis), the new form of `ManagedSlice` (the part itself, empty when refused) and "iter".
 use mathlib.Core.Path.{_≡_}
 use Prim.Native.Nat.{ℕ}
 use mathlib.Core.Bool.{Bool, true, false}
 use mathlib.Core.List.{List, []}
 use lib.ListN.{length, getD}
 use lib.Dec.{eqb, ltb}
-use Rattle.parts.specs.Parts.{pick, putIn}
+use Rattle.parts.specs.Parts.{pick, putIn, View}
 use Rattle.telegrams.specs.Diagnosis.{noDiagnosis}
 use Rattle.station.specs.Record.{isRunning, lastDiagnosis}
 use Rattle.peripheral.specs.declared.record.Peripheral.{Peripheral}
-use Rattle.peripheral.specs.Record.{blank}
+use Rattle.peripheral.specs.Record.{blank, inputView, outputView, extendedView}
 use Rattle.peripheral_set.specs.declared.PeripheralHandle.{PeripheralHandle}
 use Rattle.peripheral_set.specs.declared.Entry.{Entry}
 use Rattle.peripheral_set.specs.Marks.{slots, isOccupied, handleRefusal}
@@ -18,6 +18,7 @@ use Rattle.cycle.specs.Refusal.{unless, orElse}
 use Rattle.master.specs.declared.unit.DpMaster.{DpMaster}
 use Rattle.master.specs.Unit.{balanceAt}
 use Rattle.access.specs.declared.diagnosis.LastDiagnosis.{LastDiagnosis}
+use Rattle.access.specs.declared.images.ImageRange.{ImageRange}
 
 -- the balance of a handle; a blank record where the handle is refused
 unfoldable pub foundIn : DpMaster → PeripheralHandle → Peripheral
@@ -27,6 +28,34 @@ foundIn m h = pick (isOccupied (m .occupied) (h .slot)) (balanceAt (m .periphera
 abbrev pub pooledRefusal : ℕ → ℕ → PeripheralHandle → List Bool → ℕ
 pooledRefusal lent pool h marks = unless (eqb lent pool) 2 (handleRefusal h marks)
 
+-- the numbers of the calls that are lent one pool
+abbrev pub inputNumber : DpMaster → PeripheralHandle → List ℕ → ℕ
+inputNumber m h inputs = pooledRefusal (length inputs) (m .parameters .«input_pool») h (m .occupied)
+
+abbrev pub outputNumber : DpMaster → PeripheralHandle → List ℕ → ℕ
+outputNumber m h outputs = pooledRefusal (length outputs) (m .parameters .«output_pool») h (m .occupied)
+
+abbrev pub diagNumber : DpMaster → PeripheralHandle → List ℕ → ℕ
+diagNumber m h diags = pooledRefusal (length diags) (m .parameters .«diag_pool») h (m .occupied)
+
+-- a view by its number: the part where it is 0, else nothing, at the front of the pool
+abbrev pub viewOf : ℕ → View → View
+viewOf n v = record { start = pick (eqb n 0) (v .start) 0; bytes = pick (eqb n 0) (v .bytes) [] }
+
+-- the input image, the output image and the extended part of a handle's balance
+abbrev pub inputsSeen : DpMaster → PeripheralHandle → List ℕ → View
+inputsSeen m h inputs = viewOf (inputNumber m h inputs) (inputView (foundIn m h) inputs)
+
+abbrev pub outputsSeen : DpMaster → PeripheralHandle → List ℕ → View
+outputsSeen m h outputs = viewOf (outputNumber m h outputs) (outputView (foundIn m h) outputs)
+
+abbrev pub extendedSeen : DpMaster → PeripheralHandle → List ℕ → View
+extendedSeen m h diags = viewOf (diagNumber m h diags) (extendedView (foundIn m h) diags)
+
+-- a number, and where the view lies
+abbrev pub rangeOf : ℕ → View → ImageRange
+rangeOf n v = record { refusal = n; start = v .start; len = length (v .bytes) }
+
 -- before one is held, and when refused: none
 abbrev pub lastOf : ℕ → Peripheral → LastDiagnosis
 lastOf n p = record { refusal = n; value = pick (eqb n 0) (lastDiagnosis (p .station)) noDiagnosis }
@@ -34,7 +63,7 @@ lastOf n p = record { refusal = n; value = pick (eqb n 0) (lastDiagnosis (p .sta
 -- an output write: lent pool, handle, and a length that is not the image's
 unfoldable pub writeRefusal : DpMaster → PeripheralHandle → List ℕ → List ℕ → ℕ
 writeRefusal m h bytes outputs =
-    orElse (pooledRefusal (length outputs) (m .parameters .«output_pool») h (m .occupied))
+    orElse (outputNumber m h outputs)
     (unless (eqb (length bytes) (foundIn m h .ranges .«output_len»)) 11 0)
 
 pub record Wrote (m : DpMaster) (h : PeripheralHandle) (bytes outputs out : List ℕ) (r : ℕ) : Type 0 where

@@ -1,11 +1,7 @@
 // The last diagnosis: numbers, and its extended part in the lent pool.
 ghost use mathlib.Core.Path.{_≡_};
-ghost use mathlib.Core.List.{[]};
-ghost use lib.ListN.{length};
-ghost use lib.Dec.{eqb};
-ghost use Rattle.parts.specs.Parts.{pick};
-ghost use Rattle.peripheral.specs.Record.{lastExtended};
-ghost use Rattle.access.specs.Lookup.{foundIn, pooledRefusal, lastOf};
+ghost use Rattle.parts.specs.Parts.{Itself};
+ghost use Rattle.access.specs.Lookup.{foundIn, diagNumber, extendedSeen, lastOf};
 use crate::images::pooled_refusal;
 use crate::lookup::find;
 use master::unit::DpMaster;
@@ -19,7 +15,7 @@ pub struct LastDiagnosis {
 }
 
 pub fn last_diagnostics(m: DpMaster, handle: PeripheralHandle, diags: &[u8]) -> LastDiagnosis
-    ensures { λ r. ⌜ r ≡ lastOf (pooledRefusal (length (now (diags .entry))) (m .parameters .«diag_pool») handle (m .occupied)) (foundIn m handle) ⌝ }
+    ensures { λ r. ⌜ r ≡ lastOf (diagNumber m handle (now (diags .entry))) (foundIn m handle) ⌝ }
 {
     let refusal = pooled_refusal(m, handle, diags.len(), m.parameters.diag_pool);
     if refusal != 0 {
@@ -38,12 +34,12 @@ pub fn last_diagnostics(m: DpMaster, handle: PeripheralHandle, diags: &[u8]) -> 
 
 // Its extended part, itself.
 pub fn extended_diagnostics(m: DpMaster, handle: PeripheralHandle, diags: &[u8]) -> &[u8]
-    ensures { λ r. ⌜ now r ≡ pick (eqb (length (now (diags .entry))) (m .parameters .«diag_pool»)) (lastExtended (foundIn m handle) (now (diags .entry))) [] ⌝ }
+    ensures { λ r. ⌜ Itself (extendedSeen m handle (now (diags .entry))) (diags .entry) r ⌝ }
 {
+    if pooled_refusal(m, handle, diags.len(), m.parameters.diag_pool) != 0 {
+        return &diags[0..0];
+    }
     let f = find(m, handle);
     let p = f.peripheral;
-    if diags.len() == parts::place(m.parameters.diag_pool) {
-        return p.extended_diagnostics(diags);
-    }
-    &diags[0..0]
+    p.extended_diagnostics(diags)
 }

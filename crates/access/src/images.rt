@@ -1,14 +1,17 @@
 // Images in the lent pools: the part itself, empty when refused, and a call that answers the number.
 ghost use mathlib.Core.Path.{_≡_};
-ghost use mathlib.Core.List.{[]};
-ghost use lib.ListN.{length};
-ghost use lib.Dec.{eqb};
-ghost use Rattle.parts.specs.Parts.{pick};
-ghost use Rattle.peripheral.specs.Record.{inputImage, outputImage};
-ghost use Rattle.access.specs.Lookup.{foundIn, pooledRefusal, Wrote};
+ghost use Rattle.parts.specs.Parts.{Itself};
+ghost use Rattle.access.specs.Lookup.{pooledRefusal, inputNumber, outputNumber, inputsSeen, outputsSeen, rangeOf, Wrote};
 use crate::lookup::find;
 use master::unit::DpMaster;
 use peripheral_set::PeripheralHandle;
+
+// The number, and where the image starts in its pool and how long it is; 0 and 0 when refused.
+pub struct ImageRange {
+    pub refusal: u8,
+    pub start: usize,
+    pub len: usize,
+}
 
 // 2 where the lent pool has another length than at creation, then the handle's number.
 pub fn pooled_refusal(m: DpMaster, handle: PeripheralHandle, lent: usize, pool: u16) -> u8
@@ -23,52 +26,82 @@ pub fn pooled_refusal(m: DpMaster, handle: PeripheralHandle, lent: usize, pool: 
 
 // The number of `pi_i`.
 pub fn pi_i_refusal(m: DpMaster, handle: PeripheralHandle, inputs: &[u8]) -> u8
-    ensures { λ r. ⌜ r ≡ pooledRefusal (length (now (inputs .entry))) (m .parameters .«input_pool») handle (m .occupied) ⌝ }
+    ensures { λ r. ⌜ r ≡ inputNumber m handle (now (inputs .entry)) ⌝ }
 {
     pooled_refusal(m, handle, inputs.len(), m.parameters.input_pool)
 }
 
 // The input image, itself.
 pub fn pi_i(m: DpMaster, handle: PeripheralHandle, inputs: &[u8]) -> &[u8]
-    ensures { λ r. ⌜ now r ≡ pick (eqb (length (now (inputs .entry))) (m .parameters .«input_pool»)) (inputImage (foundIn m handle) (now (inputs .entry))) [] ⌝ }
+    ensures { λ r. ⌜ Itself (inputsSeen m handle (now (inputs .entry))) (inputs .entry) r ⌝ }
 {
+    if pooled_refusal(m, handle, inputs.len(), m.parameters.input_pool) != 0 {
+        return &inputs[0..0];
+    }
     let f = find(m, handle);
     let p = f.peripheral;
-    if inputs.len() == parts::place(m.parameters.input_pool) {
-        return p.pi_i(inputs);
-    }
-    &inputs[0..0]
+    p.pi_i(inputs)
 }
 
 // The number of `pi_q` and of `pi_q_mut`.
 pub fn pi_q_refusal(m: DpMaster, handle: PeripheralHandle, outputs: &[u8]) -> u8
-    ensures { λ r. ⌜ r ≡ pooledRefusal (length (now (outputs .entry))) (m .parameters .«output_pool») handle (m .occupied) ⌝ }
+    ensures { λ r. ⌜ r ≡ outputNumber m handle (now (outputs .entry)) ⌝ }
 {
     pooled_refusal(m, handle, outputs.len(), m.parameters.output_pool)
 }
 
 // The output image, itself.
 pub fn pi_q(m: DpMaster, handle: PeripheralHandle, outputs: &[u8]) -> &[u8]
-    ensures { λ r. ⌜ now r ≡ pick (eqb (length (now (outputs .entry))) (m .parameters .«output_pool»)) (outputImage (foundIn m handle) (now (outputs .entry))) [] ⌝ }
+    ensures { λ r. ⌜ Itself (outputsSeen m handle (now (outputs .entry))) (outputs .entry) r ⌝ }
 {
+    if pooled_refusal(m, handle, outputs.len(), m.parameters.output_pool) != 0 {
+        return &outputs[0..0];
+    }
     let f = find(m, handle);
     let p = f.peripheral;
-    if outputs.len() == parts::place(m.parameters.output_pool) {
-        return p.pi_q(outputs);
-    }
-    &outputs[0..0]
+    p.pi_q(outputs)
 }
 
 // The output image, for the caller to write.
 pub fn pi_q_mut(m: DpMaster, handle: PeripheralHandle, outputs: &mut [u8]) -> &mut [u8]
-    ensures { λ r. ⌜ now r ≡ pick (eqb (length (now (outputs .entry))) (m .parameters .«output_pool»)) (outputImage (foundIn m handle) (now (outputs .entry))) [] ⌝ }
+    ensures { λ r. ⌜ Itself (outputsSeen m handle (now (outputs .entry))) (outputs .entry) r ⌝ }
 {
+    if pooled_refusal(m, handle, outputs.len(), m.parameters.output_pool) != 0 {
+        return &mut outputs[0..0];
+    }
     let f = find(m, handle);
     let p = f.peripheral;
-    if outputs.len() == parts::place(m.parameters.output_pool) {
-        return p.pi_q_mut(outputs);
+    p.pi_q_mut(outputs)
+}
+
+// Where `pi_q` and `pi_q_mut` hand the output image out, for whoever slices the pool himself.
+pub fn pi_q_range(m: DpMaster, handle: PeripheralHandle, outputs: &[u8]) -> ImageRange
+    ensures { λ r. ⌜ r ≡ rangeOf (outputNumber m handle (now (outputs .entry))) (outputsSeen m handle (now (outputs .entry))) ⌝ }
+{
+    let refusal = pooled_refusal(m, handle, outputs.len(), m.parameters.output_pool);
+    if refusal != 0 {
+        return ImageRange {
+            refusal: refusal,
+            start: 0,
+            len: 0,
+        };
     }
-    &mut outputs[0..0]
+    let f = find(m, handle);
+    let p = f.peripheral;
+    let start = parts::place(p.ranges.outputs);
+    let len = parts::size(p.ranges.output_len);
+    if parts::inside(start, len, outputs.len()) {
+        return ImageRange {
+            refusal: 0,
+            start: start,
+            len: len,
+        };
+    }
+    ImageRange {
+        refusal: 0,
+        start: 0,
+        len: 0,
+    }
 }
 
 // The output image becomes `bytes`: 2, 4, and 11 where they are not as long as the image.

@@ -2,6 +2,8 @@
 -- The idea: a contract is an equation for the answer and for each lent buffer, so two of them have the same right-hand side.
 use mathlib.Core.Path.{_≡_}
 use denote.Ref.{now}
+use Rattle.parts.specs.Parts.{SamePart}
+use Rattle.parts.proofs.Laws.{itself-same}
 use Rattle.coincide.specs.Coincide.{Coincide}
 use Rattle.coincide.proofs.Law.{same}
 use Rattle.access.proofs.diagnosis.last_diagnostics.Kinds as K·diagnosis-last-diagnostics
@@ -20,6 +22,8 @@ use Rattle.access.proofs.images.pi_q.Kinds as K·images-pi-q
 use Rattle.access.proofs.images.pi_q.Reads as R·images-pi-q
 use Rattle.access.proofs.images.pi_q_mut.Kinds as K·images-pi-q-mut
 use Rattle.access.proofs.images.pi_q_mut.Reads as R·images-pi-q-mut
+use Rattle.access.proofs.images.pi_q_range.Kinds as K·images-pi-q-range
+use Rattle.access.proofs.images.pi_q_range.Reads as R·images-pi-q-range
 use Rattle.access.proofs.images.write_outputs.Kinds as K·images-write-outputs
 use Rattle.access.proofs.images.write_outputs.Reads as R·images-write-outputs
 use Rattle.access.proofs.listing.count.Kinds as K·listing-count
@@ -40,8 +44,8 @@ use Rattle.access.proofs.lookup.options.Reads as R·lookup-options
 pub diagnosis-last-diagnostics : Coincide 1 K·diagnosis-last-diagnostics.ps K·diagnosis-last-diagnostics.r R·diagnosis-last-diagnostics.Learnt (λ κs z y e f. z ≡ y)
 diagnosis-last-diagnostics κs a z y e f p q = same p q
 
-pub diagnosis-extended-diagnostics : Coincide 1 K·diagnosis-extended-diagnostics.ps K·diagnosis-extended-diagnostics.r R·diagnosis-extended-diagnostics.Learnt (λ κs z y e f. now z ≡ now y)
-diagnosis-extended-diagnostics κs a z y e f p q = same p q
+pub diagnosis-extended-diagnostics : Coincide 1 K·diagnosis-extended-diagnostics.ps K·diagnosis-extended-diagnostics.r R·diagnosis-extended-diagnostics.Learnt (λ κs z y e f. SamePart z y)
+diagnosis-extended-diagnostics κs a z y e f p q = itself-same p q
 
 pub images-pooled-refusal : Coincide 0 K·images-pooled-refusal.ps K·images-pooled-refusal.r R·images-pooled-refusal.Learnt (λ κs z y e f. z ≡ y)
 images-pooled-refusal κs a z y e f p q = same p q
@@ -49,17 +53,20 @@ images-pooled-refusal κs a z y e f p q = same p q
 pub images-pi-i-refusal : Coincide 1 K·images-pi-i-refusal.ps K·images-pi-i-refusal.r R·images-pi-i-refusal.Learnt (λ κs z y e f. z ≡ y)
 images-pi-i-refusal κs a z y e f p q = same p q
 
-pub images-pi-i : Coincide 1 K·images-pi-i.ps K·images-pi-i.r R·images-pi-i.Learnt (λ κs z y e f. now z ≡ now y)
-images-pi-i κs a z y e f p q = same p q
+pub images-pi-i : Coincide 1 K·images-pi-i.ps K·images-pi-i.r R·images-pi-i.Learnt (λ κs z y e f. SamePart z y)
+images-pi-i κs a z y e f p q = itself-same p q
 
 pub images-pi-q-refusal : Coincide 1 K·images-pi-q-refusal.ps K·images-pi-q-refusal.r R·images-pi-q-refusal.Learnt (λ κs z y e f. z ≡ y)
 images-pi-q-refusal κs a z y e f p q = same p q
 
-pub images-pi-q : Coincide 1 K·images-pi-q.ps K·images-pi-q.r R·images-pi-q.Learnt (λ κs z y e f. now z ≡ now y)
-images-pi-q κs a z y e f p q = same p q
+pub images-pi-q : Coincide 1 K·images-pi-q.ps K·images-pi-q.r R·images-pi-q.Learnt (λ κs z y e f. SamePart z y)
+images-pi-q κs a z y e f p q = itself-same p q
 
-pub images-pi-q-mut : Coincide 1 K·images-pi-q-mut.ps K·images-pi-q-mut.r R·images-pi-q-mut.Learnt (λ κs z y e f. now z ≡ now y)
-images-pi-q-mut κs a z y e f p q = same p q
+pub images-pi-q-mut : Coincide 1 K·images-pi-q-mut.ps K·images-pi-q-mut.r R·images-pi-q-mut.Learnt (λ κs z y e f. SamePart z y)
+images-pi-q-mut κs a z y e f p q = itself-same p q
+
+pub images-pi-q-range : Coincide 1 K·images-pi-q-range.ps K·images-pi-q-range.r R·images-pi-q-range.Learnt (λ κs z y e f. z ≡ y)
+images-pi-q-range κs a z y e f p q = same p q
 
 pub images-write-outputs : Coincide 2 K·images-write-outputs.ps K·images-write-outputs.r R·images-write-outputs.Learnt (λ κs z y e f. (z ≡ y) × (now (e .1 .1 .1 .0) ≡ now (f .1 .1 .1 .0)))
 images-write-outputs κs a z y e f p q = (same (p .answer) (q .answer), same (p .pool) (q .pool))

@@ -2,6 +2,8 @@
 -- The idea: a contract is an equation for the answer and for each lent buffer, so two of them have the same right-hand side.
 use mathlib.Core.Path.{_≡_}
 use denote.Ref.{now}
+use Rattle.parts.specs.Parts.{SamePart}
+use Rattle.parts.proofs.Laws.{itself-same}
 use Rattle.coincide.specs.Coincide.{Coincide}
 use Rattle.coincide.proofs.Law.{same}
 use Rattle.parts.proofs.place.Kinds as K·place
@@ -39,8 +41,8 @@ copy-at κs a z y e f p q = (same (p .answer) (q .answer), same (p .bytes) (q .b
 pub clear-at : Coincide 1 K·clear-at.ps K·clear-at.r R·clear-at.Learnt (λ κs z y e f. (z ≡ y) × (now (e .0) ≡ now (f .0)))
 clear-at κs a z y e f p q = (same (p .answer) (q .answer), same (p .bytes) (q .bytes))
 
-pub part : Coincide 1 K·part.ps K·part.r R·part.Learnt (λ κs z y e f. (now z ≡ now y) × (z .ptr .0 ≡ y .ptr .0) × (z .ptr .1 ≡ y .ptr .1))
-part κs a z y e f p q = (same (p .0) (q .0), same (p .1 .0) (q .1 .0), same (p .1 .1) (q .1 .1))
+pub part : Coincide 1 K·part.ps K·part.r R·part.Learnt (λ κs z y e f. SamePart z y)
+part κs a z y e f p q = itself-same p q
 
-pub part-mut : Coincide 1 K·part-mut.ps K·part-mut.r R·part-mut.Learnt (λ κs z y e f. (now z ≡ now y) × (z .ptr .0 ≡ y .ptr .0) × (z .ptr .1 ≡ y .ptr .1))
-part-mut κs a z y e f p q = (same (p .0) (q .0), same (p .1 .0) (q .1 .0), same (p .1 .1) (q .1 .1))
+pub part-mut : Coincide 1 K·part-mut.ps K·part-mut.r R·part-mut.Learnt (λ κs z y e f. SamePart z y)
+part-mut κs a z y e f p q = itself-same p q

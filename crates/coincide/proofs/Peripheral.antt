@@ -2,6 +2,8 @@
 -- The idea: a contract is an equation for the answer and for each lent buffer, so two of them have the same right-hand side.
 use mathlib.Core.Path.{_≡_, refl}
 use denote.Ref.{now}
+use Rattle.parts.specs.Parts.{SamePart}
+use Rattle.parts.proofs.Laws.{itself-same}
 use Rattle.coincide.specs.Coincide.{Coincide}
 use Rattle.coincide.proofs.Law.{same}
 use Rattle.peripheral.proofs.record.Peripheral.blank.Kinds as K·record-Peripheral-blank
@@ -68,17 +70,17 @@ record-Peripheral-request-diagnostics κs a z y e f p q = same p q
 pub record-Peripheral-last-diagnostics : Coincide 0 K·record-Peripheral-last-diagnostics.ps K·record-Peripheral-last-diagnostics.r R·record-Peripheral-last-diagnostics.Learnt (λ κs z y e f. z ≡ y)
 record-Peripheral-last-diagnostics κs a z y e f p q = same p q
 
-pub record-Peripheral-extended-diagnostics : Coincide 1 K·record-Peripheral-extended-diagnostics.ps K·record-Peripheral-extended-diagnostics.r R·record-Peripheral-extended-diagnostics.Learnt (λ κs z y e f. now z ≡ now y)
-record-Peripheral-extended-diagnostics κs a z y e f p q = same p q
+pub record-Peripheral-extended-diagnostics : Coincide 1 K·record-Peripheral-extended-diagnostics.ps K·record-Peripheral-extended-diagnostics.r R·record-Peripheral-extended-diagnostics.Learnt (λ κs z y e f. SamePart z y)
+record-Peripheral-extended-diagnostics κs a z y e f p q = itself-same p q
 
-pub record-Peripheral-pi-i : Coincide 1 K·record-Peripheral-pi-i.ps K·record-Peripheral-pi-i.r R·record-Peripheral-pi-i.Learnt (λ κs z y e f. now z ≡ now y)
-record-Peripheral-pi-i κs a z y e f p q = same p q
+pub record-Peripheral-pi-i : Coincide 1 K·record-Peripheral-pi-i.ps K·record-Peripheral-pi-i.r R·record-Peripheral-pi-i.Learnt (λ κs z y e f. SamePart z y)
+record-Peripheral-pi-i κs a z y e f p q = itself-same p q
 
-pub record-Peripheral-pi-q : Coincide 1 K·record-Peripheral-pi-q.ps K·record-Peripheral-pi-q.r R·record-Peripheral-pi-q.Learnt (λ κs z y e f. now z ≡ now y)
-record-Peripheral-pi-q κs a z y e f p q = same p q
+pub record-Peripheral-pi-q : Coincide 1 K·record-Peripheral-pi-q.ps K·record-Peripheral-pi-q.r R·record-Peripheral-pi-q.Learnt (λ κs z y e f. SamePart z y)
+record-Peripheral-pi-q κs a z y e f p q = itself-same p q
 
-pub record-Peripheral-pi-q-mut : Coincide 1 K·record-Peripheral-pi-q-mut.ps K·record-Peripheral-pi-q-mut.r R·record-Peripheral-pi-q-mut.Learnt (λ κs z y e f. now z ≡ now y)
-record-Peripheral-pi-q-mut κs a z y e f p q = same p q
+pub record-Peripheral-pi-q-mut : Coincide 1 K·record-Peripheral-pi-q-mut.ps K·record-Peripheral-pi-q-mut.r R·record-Peripheral-pi-q-mut.Learnt (λ κs z y e f. SamePart z y)
+record-Peripheral-pi-q-mut κs a z y e f p q = itself-same p q
 
 pub record-Peripheral-handle-diagnostics-response : Coincide 2 K·record-Peripheral-handle-diagnostics-response.ps K·record-Peripheral-handle-diagnostics-response.r R·record-Peripheral-handle-diagnostics-response.Learnt (λ κs z y e f. (z ≡ y) × (now (e .1 .1 .1 .0) ≡ now (f .1 .1 .1 .0)))
 record-Peripheral-handle-diagnostics-response κs a z y e f p q = (rw (same (p .answer) (q .answer), same (p .after) (q .after)) refl, same (p .bytes) (q .bytes))

@@ -1,6 +1,7 @@
 // The last diagnosis as one record that refers to the extended part in the lent pool.
 ghost use mathlib.Core.Path.{_≡_};
-ghost use Rattle.forms.specs.Diagnosis.{lastRefusal, partOf, Says};
+ghost use Rattle.access.specs.Lookup.{diagNumber};
+ghost use Rattle.forms.specs.Diagnosis.{partOf, Says};
 use master::unit::DpMaster;
 use peripheral_set::PeripheralHandle;
 
@@ -15,7 +16,7 @@ pub struct PeripheralDiagnostics<'a> {
 
 // The number of `last_diagnostics`.
 pub fn last_diagnostics_refusal(m: DpMaster, handle: PeripheralHandle, diags: &[u8]) -> u8
-    ensures { λ r. ⌜ r ≡ lastRefusal m handle (now (diags .entry)) ⌝ }
+    ensures { λ r. ⌜ r ≡ diagNumber m handle (now (diags .entry)) ⌝ }
 {
     access::images::pooled_refusal(m, handle, diags.len(), m.parameters.diag_pool)
 }
@@ -26,7 +27,7 @@ pub fn last_diagnostics<'a>(
     handle: PeripheralHandle,
     diags: &'a [u8],
 ) -> PeripheralDiagnostics<'a>
-    ensures { λ r. ⌜ Says m handle (now (diags .entry)) r ⌝ }
+    ensures { λ r. ⌜ Says m handle (diags .entry) r ⌝ }
 {
     let last = access::diagnosis::last_diagnostics(m, handle, diags);
     let info = last.value;

@@ -12,7 +12,8 @@ use lib.ListN.{length, take, drop, getD, set, length-append, length-take, length
 use lib.Seq.{length-take-le, take-append-le, drop-append-le, take-append-seam, drop-at, take-at, drop-drop, sets, sets-eq, paste, paste-suc, take-all, take-length, take-add}
 use lib.Dec.{leb}
 use borrow.Author.Tests.{le-leb, lt-leb, leb-true, leb-false}
-use Rattle.parts.specs.Parts.{pick, inside, part, splice, roomFor, putIn, Put}
+use denote.Ref.{RefT}
+use Rattle.parts.specs.Parts.{pick, inside, part, View, Itself, SamePart, splice, roomFor, putIn, Put}
 
 -- ---- a test that is known, and one that is not
 
@@ -139,6 +140,12 @@ part-by-window at len l m e w = rw (inside-length at len l m e) (ap (λ (x : Lis
 -- a part `&l[a..e]`, as the borrow checker states it
 pub span : (at end len : ℕ) (l : List ℕ) → end ≡ at + len → inside at len l ≡ true → take (end - at) (drop at l) ≡ part at len l
 span at end len l q e = let w : end - at ≡ len = omega arith in rw w (sym (part-in at len l e))
+
+-- ---- `Itself`
+
+-- two parts that are one view of one slice are the same part
+pub itself-same : {v : View} {src r s : RefT (List ℕ)} → Itself v src r → Itself v src s → SamePart r s
+itself-same one two = (one .holds ∙ sym (two .holds), (one .block ∙ sym (two .block), one .offset ∙ sym (two .offset)))
 
 -- ---- `roomFor`
 

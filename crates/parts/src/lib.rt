@@ -4,7 +4,7 @@ ghost use mathlib.Core.Path.{_≡_};
 ghost use Prim.Native.Nat.{_+_, _<_};
 ghost use lib.Dec.{leb};
 ghost use lib.ListN.{getD};
-ghost use Rattle.parts.specs.Parts.{pick, inside, part, zeros, Put};
+ghost use Rattle.parts.specs.Parts.{zeros, Put, viewAt, Itself};
 
 // An offset, widened where it is used.
 pub fn place(at: u16) -> usize
@@ -75,8 +75,7 @@ pub fn clear_at(dst: &mut [u8], at: usize, len: usize) -> bool
 
 // The range of `len` bytes from `at`, itself and no copy of it; empty where it does not lie in `src`.
 pub fn part(src: &[u8], at: usize, len: usize) -> &[u8]
-    ensures holds { λ r. ⌜ now r ≡ part at len (now (src .entry)) ⌝ }
-    ensures itself { λ r. ⌜ (r .ptr .0 ≡ src .entry .ptr .0) × (r .ptr .1 ≡ src .entry .ptr .1 + pick (inside at len (now (src .entry))) at 0) ⌝ }
+    ensures { λ r. ⌜ Itself (viewAt at len (now (src .entry))) (src .entry) r ⌝ }
 {
     if inside(at, len, src.len()) {
         let end = at + len;
@@ -87,8 +86,7 @@ pub fn part(src: &[u8], at: usize, len: usize) -> &[u8]
 
 // The same range, for the caller to write.
 pub fn part_mut(src: &mut [u8], at: usize, len: usize) -> &mut [u8]
-    ensures holds { λ r. ⌜ now r ≡ part at len (now (src .entry)) ⌝ }
-    ensures itself { λ r. ⌜ (r .ptr .0 ≡ src .entry .ptr .0) × (r .ptr .1 ≡ src .entry .ptr .1 + pick (inside at len (now (src .entry))) at 0) ⌝ }
+    ensures { λ r. ⌜ Itself (viewAt at len (now (src .entry))) (src .entry) r ⌝ }
 {
     if inside(at, len, src.len()) {
         let end = at + len;

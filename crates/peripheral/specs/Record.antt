@@ -3,7 +3,7 @@
 use Prim.Native.Nat.{ℕ, _+_}
 use mathlib.Core.Bool.{false}
 use mathlib.Core.List.{List}
-use Rattle.parts.specs.Parts.{part}
+use Rattle.parts.specs.Parts.{part, View, viewAt}
 use Rattle.telegrams.specs.declared.options.PeripheralOptions.{PeripheralOptions}
 use Rattle.station.specs.declared.record.Station.{Station}
 use Rattle.station.specs.Record.{newOf as newStation, storedPart}
@@ -52,17 +52,26 @@ stationIs s p = record { station = s; ranges = p .ranges; options = p .options }
 abbrev pub resetOf : Peripheral → ℕ → Peripheral
 resetOf p a = newOf a (p .options) (p .ranges)
 
--- ---- its parts of the pools
+-- ---- its parts of the pools: each with its place, and its bytes
+
+abbrev pub inputView : Peripheral → List ℕ → View
+inputView p inputs = viewAt (p .ranges .inputs) (p .ranges .«input_len») inputs
 
 abbrev pub inputImage : Peripheral → List ℕ → List ℕ
-inputImage p inputs = part (p .ranges .inputs) (p .ranges .«input_len») inputs
+inputImage p inputs = inputView p inputs .bytes
+
+abbrev pub outputView : Peripheral → List ℕ → View
+outputView p outputs = viewAt (p .ranges .outputs) (p .ranges .«output_len») outputs
 
 abbrev pub outputImage : Peripheral → List ℕ → List ℕ
-outputImage p outputs = part (p .ranges .outputs) (p .ranges .«output_len») outputs
+outputImage p outputs = outputView p outputs .bytes
 
 -- the extended part of the last diagnosis
+abbrev pub extendedView : Peripheral → List ℕ → View
+extendedView p diags = viewAt (p .ranges .diag) (storedPart (p .station)) diags
+
 abbrev pub lastExtended : Peripheral → List ℕ → List ℕ
-lastExtended p diags = part (p .ranges .diag) (storedPart (p .station)) diags
+lastExtended p diags = extendedView p diags .bytes
 
 -- in the set-up range the user parameters come first, the configuration right after
 abbrev pub userPart : Peripheral → List ℕ → List ℕ

@@ -1,8 +1,9 @@
 // The record of a peripheral, as newly added and after a reset, and what can be read off it.
 ghost use mathlib.Core.Path.{_≡_};
 ghost use mathlib.Core.Bool.{true};
+ghost use Rattle.parts.specs.Parts.{Itself};
 ghost use Rattle.station.specs.Record.{dueIs, isLive, isRunning, lastDiagnosis};
-ghost use Rattle.peripheral.specs.Record.{blank, newOf, resetOf, stationIs, lastExtended, inputImage, outputImage};
+ghost use Rattle.peripheral.specs.Record.{blank, newOf, resetOf, stationIs, inputView, outputView, extendedView};
 use station::record::Station;
 use telegrams::diagnosis::DiagnosticsInfo;
 use telegrams::options::PeripheralOptions;
@@ -138,7 +139,7 @@ impl Peripheral {
 
     // The extended part of the last diagnosis, itself.
     pub fn extended_diagnostics(self, diags: &[u8]) -> &[u8]
-        ensures { λ r. ⌜ now r ≡ lastExtended self (now (diags .entry)) ⌝ }
+        ensures { λ r. ⌜ Itself (extendedView self (now (diags .entry))) (diags .entry) r ⌝ }
     {
         parts::part(
             diags,
@@ -149,7 +150,7 @@ impl Peripheral {
 
     // The input image, itself.
     pub fn pi_i(self, inputs: &[u8]) -> &[u8]
-        ensures { λ r. ⌜ now r ≡ inputImage self (now (inputs .entry)) ⌝ }
+        ensures { λ r. ⌜ Itself (inputView self (now (inputs .entry))) (inputs .entry) r ⌝ }
     {
         parts::part(
             inputs,
@@ -160,7 +161,7 @@ impl Peripheral {
 
     // The output image, itself.
     pub fn pi_q(self, outputs: &[u8]) -> &[u8]
-        ensures { λ r. ⌜ now r ≡ outputImage self (now (outputs .entry)) ⌝ }
+        ensures { λ r. ⌜ Itself (outputView self (now (outputs .entry))) (outputs .entry) r ⌝ }
     {
         parts::part(
             outputs,
@@ -171,7 +172,7 @@ impl Peripheral {
 
     // The output image, for the caller to write.
     pub fn pi_q_mut(self, outputs: &mut [u8]) -> &mut [u8]
-        ensures { λ r. ⌜ now r ≡ outputImage self (now (outputs .entry)) ⌝ }
+        ensures { λ r. ⌜ Itself (outputView self (now (outputs .entry))) (outputs .entry) r ⌝ }
     {
         parts::part_mut(
             outputs,

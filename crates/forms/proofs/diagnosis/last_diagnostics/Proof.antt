@@ -41,13 +41,13 @@ use denote.Triple.Spec.{Meets, tripleOf}
 use denote.Triple.Table.{entered, cited}
 use denote.Triple.Walked.{says, Stays, stay-none, stay-none-slice, walkOf, goes-none, goes-none-slice, Walks, ends-at, walked, walk-meets}
 use denote.Exit.{yes}
+use Rattle.parts.specs.Parts.{Itself}
 use Rattle.telegrams.specs.declared.diagnosis.DiagnosticsInfo.{DiagnosticsInfo}
 use Rattle.peripheral_set.specs.declared.PeripheralHandle.{PeripheralHandle}
 use Rattle.master.specs.declared.unit.DpMaster.{DpMaster}
 use Rattle.access.specs.declared.diagnosis.LastDiagnosis.{LastDiagnosis}
-use Rattle.access.specs.Lookup.{foundIn, lastOf}
+use Rattle.access.specs.Lookup.{foundIn, diagNumber, extendedSeen, lastOf}
 use Rattle.forms.specs.declared.diagnosis.PeripheralDiagnostics.{PeripheralDiagnostics}
-use Rattle.forms.specs.Diagnosis.{lastRefusal, lastPart}
 use Rattle.telegrams.proofs.diagnosis.DiagnosticsInfo as I
 use Rattle.telegrams.proofs.diagnosis.DiagnosticsInfo.Laws as I′
 use Rattle.peripheral_set.proofs.PeripheralHandle as P
@@ -124,10 +124,10 @@ module _ {M : Type 1} (𝓤 : URA M) (H : Heap 𝓤) (A : Atoms 𝓤) (W : Given
   to-part = (((κ, tt), (q, tt), tt, a, vals), tt)
 
   abbrev Numbers : LastDiagnosis → Type 0
-  Numbers d = d ≡ lastOf (lastRefusal m h (now s)) (foundIn m h)
+  Numbers d = d ≡ lastOf (diagNumber m h (now s)) (foundIn m h)
 
   abbrev Said : RefT (List ℕ) → Type 0
-  Said x = now x ≡ lastPart m h (now s)
+  Said x = Itself (extendedSeen m h (now s)) s x
 
   last-said : (d : LastDiagnosis) → ent 𝓤 (ensured 𝓤 H A last.ended (last.clauses 𝓤 H A mem run) (κ, tt) a tt d) (fact 𝓤 (Numbers d))
   last-said d = exE 𝓤 _ (λ ws. snd∗ 𝓤 (sem 𝓤 H A (lasts last.ended (κ, tt) a ws)) (fact 𝓤 (Numbers d)))

@@ -17,7 +17,7 @@ part-requires c κs = search needs
 
 returns : tie.Need-returns
 returns c =
-    rw (← c .before .before .before .place .ensures .0, ← c .before .before .stored-part .ensures, ← c .before .size .ensures .0) (c .part .ensures .0)
+    rw (← c .before .before .before .place .ensures .0, ← c .before .before .stored-part .ensures, ← c .before .size .ensures .0) (c .part .ensures)
 
 pub extended-diagnostics-spec : {M : Type 1} → statement M
 extended-diagnostics-spec =

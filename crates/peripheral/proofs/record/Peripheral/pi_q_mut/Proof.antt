@@ -14,7 +14,7 @@ part-mut-requires c κs = search needs
 
 returns : tie.Need-returns
 returns c =
-    rw (← c .before .before .place .ensures .0, ← c .before .size .ensures .0) (c .part-mut .ensures .0)
+    rw (← c .before .before .place .ensures .0, ← c .before .size .ensures .0) (c .part-mut .ensures)
 
 pub pi-q-mut-spec : {M : Type 1} → statement M
 pi-q-mut-spec = tie.close (tie.spec place-requires size-requires part-mut-requires returns)

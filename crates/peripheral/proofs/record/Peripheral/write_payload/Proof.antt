@@ -63,7 +63,7 @@ returns : tie.Need-returns
 unfolding payloadOf
 returns c =
     let a = c .before .before .before .before .before .before .before .before .before .before .before .before .before .args in
-    let e : zeros (length (c .before .before .before .before .before .pi-q .result .now)) ≡ payloadOf (a .kind) (a .u) (a .clear) (a .self) (a .setup .now) (a .outputs .now) = simp (c .before .before .before .before .before .before .enum-told4 .given .1, c .before .before .before .before .if1 .taken, c .before .before .before .before .before .pi-q .ensures) in
+    let e : zeros (length (c .before .before .before .before .before .pi-q .result .now)) ≡ payloadOf (a .kind) (a .u) (a .clear) (a .self) (a .setup .now) (a .outputs .now) = simp (c .before .before .before .before .before .before .enum-told4 .given .1, c .before .before .before .before .if1 .taken, c .before .before .before .before .before .pi-q .ensures .holds) in
     written-as _ _ _ _ _ e (c .before .before .write-zeros2 .ensures)
 
 write-bytes-requires-2 : tie.Need-write-bytes-requires-2
@@ -86,7 +86,7 @@ returns-3 : tie.Need-returns-3
 unfolding payloadOf
 returns-3 c =
     let a = c .before .before .before .before .before .before .before .before .before .before .before .before .before .args in
-    let e : paramHead (a .u) (a .self .options) ++ c .before .before .before .before .before .part .result .now ≡ payloadOf (a .kind) (a .u) (a .clear) (a .self) (a .setup .now) (a .outputs .now) = simp (c .before .before .before .before .before .before .enum-told2 .given .1, c .before .before .before .before .before .part .ensures .0, c .before .before .before .before .before .before .before .before .before .place .ensures .0, c .before .before .before .before .before .before .before .before .size .ensures .0) in
+    let e : paramHead (a .u) (a .self .options) ++ c .before .before .before .before .before .part .result .now ≡ payloadOf (a .kind) (a .u) (a .clear) (a .self) (a .setup .now) (a .outputs .now) = simp (c .before .before .before .before .before .before .enum-told2 .given .1, c .before .before .before .before .before .part .ensures .holds, c .before .before .before .before .before .before .before .before .before .place .ensures .0, c .before .before .before .before .before .before .before .before .size .ensures .0) in
     written-as _ _ _ _ _ e (c .before .before .write-parameters .ensures)
 
 same-length-4 : tie.Need-same-length-4
@@ -96,7 +96,7 @@ returns-4 : tie.Need-returns-4
 unfolding payloadOf
 returns-4 c =
     let a = c .before .before .before .before .before .before .before .before .before .before .before .before .before .args in
-    let e : c .before .before .before .before .part2 .result .now ≡ payloadOf (a .kind) (a .u) (a .clear) (a .self) (a .setup .now) (a .outputs .now) = simp (c .before .before .before .before .before .before .enum-told3 .given .1, c .before .before .before .before .part2 .ensures .0, c .before .before .before .before .before .before .before .before .before .place .ensures .0, c .before .before .before .before .before .before .before .before .size .ensures .0, c .before .before .before .before .before .size2 .ensures .0) in
+    let e : c .before .before .before .before .part2 .result .now ≡ payloadOf (a .kind) (a .u) (a .clear) (a .self) (a .setup .now) (a .outputs .now) = simp (c .before .before .before .before .before .before .enum-told3 .given .1, c .before .before .before .before .part2 .ensures .holds, c .before .before .before .before .before .before .before .before .before .place .ensures .0, c .before .before .before .before .before .before .before .before .size .ensures .0, c .before .before .before .before .before .size2 .ensures .0) in
     written-as _ _ _ _ _ e (c .before .before .write-bytes .ensures)
 
 same-length-5 : tie.Need-same-length-5
@@ -106,7 +106,7 @@ returns-5 : tie.Need-returns-5
 unfolding payloadOf
 returns-5 c =
     let a = c .before .before .before .before .before .before .before .before .before .before .before .before .before .args in
-    let e : c .before .before .before .before .before .pi-q .result .now ≡ payloadOf (a .kind) (a .u) (a .clear) (a .self) (a .setup .now) (a .outputs .now) = simp (c .before .before .before .before .before .before .enum-told4 .given .1, c .before .before .before .before .if1 .left, c .before .before .before .before .before .pi-q .ensures) in
+    let e : c .before .before .before .before .before .pi-q .result .now ≡ payloadOf (a .kind) (a .u) (a .clear) (a .self) (a .setup .now) (a .outputs .now) = simp (c .before .before .before .before .before .before .enum-told4 .given .1, c .before .before .before .before .if1 .left, c .before .before .before .before .before .pi-q .ensures .holds) in
     written-as _ _ _ _ _ e (c .before .before .write-bytes2 .ensures)
 
 pub write-payload-spec : {M : Type 1} → statement M

@@ -1,0 +1,50 @@
+-- `pi_q_range` meets its contract: refused, in its pool, or past its pool's end.
+use mathlib.Core.Path.{refl}
+use borrow.Author.Tests.{ne-eqb}
+use borrow.Author.Needs.{needs}
+use Rattle.access.proofs.Facts.{range-in, range-out}
+use Rattle.access.proofs.images.pi_q_range.Statement.{statement}
+use Rattle.access.proofs.images.pi_q_range.Tie as tie
+
+pooled-refusal-requires : tie.Need-pooled-refusal-requires
+pooled-refusal-requires c κs = search needs
+
+returns : tie.Need-returns
+returns c = rw (← c .before .pooled-refusal .ensures, ne-eqb _ _ (c .if1 .taken)) refl
+
+find-requires : tie.Need-find-requires
+find-requires c κs = search needs
+
+place-requires : tie.Need-place-requires
+place-requires c κs = search needs
+
+size-requires : tie.Need-size-requires
+size-requires c κs = search needs
+
+inside-requires : tie.Need-inside-requires
+inside-requires c κs = search needs
+
+returns-2 : tie.Need-returns-2
+returns-2 c =
+    let f = c .before .before .before .before .before in
+    rw (← f .before .before .pooled-refusal .ensures, f .before .if1 .left)
+    (range-in _ _ (f .before .before .before .before .args .outputs .now) _ _ (rw (f .find .ensures) at (c .before .before .before .place .ensures .0)) (rw (f .find .ensures) at (c .before .before .size .ensures .0)) _ (c .before .inside .ensures) (c .if2 .taken))
+
+returns-3 : tie.Need-returns-3
+returns-3 c =
+    let f = c .before .before .before .before .before in
+    rw (← f .before .before .pooled-refusal .ensures, f .before .if1 .left)
+    (range-out _ _ (f .before .before .before .before .args .outputs .now) _ _ (rw (f .find .ensures) at (c .before .before .before .place .ensures .0)) (rw (f .find .ensures) at (c .before .before .size .ensures .0)) _ (c .before .inside .ensures) (c .if2 .left))
+
+pub pi-q-range-spec : {M : Type 1} → statement M
+pi-q-range-spec =
+    tie.close
+    (tie.spec
+    pooled-refusal-requires
+    returns
+    find-requires
+    place-requires
+    size-requires
+    inside-requires
+    returns-2
+    returns-3)
