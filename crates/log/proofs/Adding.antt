@@ -1,8 +1,8 @@
 -- An accepted add keeps what holds of unit and log.
 -- The idea: the new slot was empty, its range lies after all others and is zeroed.
-use mathlib.Core.Path.{_≡_, refl, sym, ap, _∙_, subst}
-use mathlib.Core.Bool.{true, false, false≢true}
-use mathlib.Core.Logic.{_⊎_, inl, ⊎-elim}
+use mathlib.Core.Path.{_≡_, refl, sym, ap, _∙_}
+use mathlib.Core.Bool.{true, false}
+use mathlib.Core.Logic.{inl}
 use mathlib.Core.List.{List}
 use mathlib.Core.Option.{none}
 use Prim.Native.Nat.{ℕ, _+_, _≤_, _<_}
@@ -27,9 +27,9 @@ use Rattle.master.specs.Add.{rangesAt, optionsHeld, cleared, lengthsOf, userOf,
 use Rattle.valid.specs.Valid.{Valid, balance, occupied}
 use Rattle.log.specs.Calls.{World, lend, back, add, added, addStep, addNumber}
 use Rattle.log.specs.Words.{Entry, Note, wasAdded, Frame, slotLog, frameAfter, FirstEmpty, imageOf}
-use Rattle.log.proofs.Stations.{Told, Fits, told-added}
+use Rattle.log.proofs.Stations.{Told, told-added}
 use Rattle.log.proofs.Lent.{lent-same, lent-back}
-use Rattle.log.proofs.Units.{Inv, InvAt, at-set}
+use Rattle.log.proofs.Units.{asked-same, Inv, InvAt, at-set}
 
 -- so many zeros put into a range of the pool
 cleared-part : (at n : ℕ) (pool : List ℕ) → at + n ≤ length pool → part at n (cleared at n pool) ≡ zeros n
@@ -106,11 +106,6 @@ module _ (w : World) (l : List Entry) (i : Inv w l) (a : Addition) (user config 
       part-put-other (w .unit .used .inputs) (a .«input_len») (zeros (a .«input_len»)) (lend (lent .inputs) (w .pools .inputs)) (p .ranges .inputs) (p .ranges .«input_len») (inl (i .valid .placed s o .inputEnd))
       ∙ rw (lent-same (lent .inputs) (w .unit .parameters .«input_pool») (w .pools .inputs) pool-length) (i .images s o)
 
-  not-new : eqb (w .unit .state .«open_kind») 0 ≡ false → w .unit .state .«open_slot» ≡ t → ⊥
-  not-new k e =
-      ⊎-elim (λ q. false≢true (sym k ∙ eq-eqb (w .unit .state .«open_kind») 0 q))
-      (λ o. false≢true (sym was-empty ∙ (subst (λ (s : ℕ). getD (w .unit .occupied) s false ≡ true) e o))) (i .valid .opened)
-
   pub inv-add : (n : ℕ) → let o = addStep true n (lengthsOf a user config) a (userOf a user) (configOf a config) lent w in Valid (o .world .unit) → InvAt (add a user config lent) (o .answer) (o .world) l
   unfolding t sizes
   inv-add n v =
@@ -122,12 +117,7 @@ module _ (w : World) (l : List Entry) (i : Inv w l) (a : Addition) (user config 
         valid = v;
         frame-is = ap (λ (f : Frame). frameAfter (add a user config lent) (added n (record { slot = t; address = a .address })) none f) (i .frame-is);
         told = λ s u. at-set (λ (r : Peripheral) (x : List Note). Told (r .station) x) ps notes t _ (wasAdded (a .«input_len»)) here s (λ q. told-added (a .address) (a .«input_len») (slotLog t l)) (λ d. i .told s (old s u d));
-        link = λ k.
-            let y = i .link k in
-            record {
-              aimed = y .aimed;
-              fit = at-set (λ (r : Peripheral) (x : List Note). Fits (r .station) x) ps notes t _ (wasAdded (a .«input_len»)) here (w .unit .state .«open_slot») (λ q. absurd (not-new k q)) (λ d. y .fit);
-            };
+        link = λ e. let k = i .link e in record { aimed = k .aimed; kind = asked-same (eqb (w .unit .state .«open_slot») t) (wasAdded (a .«input_len»)) (slotLog (w .unit .state .«open_slot») l) refl ∙ k .kind };
         images = λ s u.
             at-set (λ (r : Peripheral) (x : List Note). inputImage r (lend (w .unit .parameters .«input_pool») (back (lent .inputs) pool (w .pools .inputs))) ≡ imageOf x) ps notes t _ (wasAdded (a .«input_len»)) here s
             (λ q. rw inputs-after (cleared-part (w .unit .used .inputs) (a .«input_len») (lend (lent .inputs) (w .pools .inputs)) range-fits))

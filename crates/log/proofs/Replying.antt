@@ -1,8 +1,7 @@
 -- An accepted reply keeps what holds of unit and log.
 -- The idea: it is from the slot that the newest turn asked; its balance hears it, its image is written where DataExchanged is reported, and no other changes.
-use mathlib.Core.Path.{_≡_, refl, sym, ap, _∙_}
+use mathlib.Core.Path.{_≡_, refl, sym, ap, _∙_, subst}
 use mathlib.Core.Bool.{Bool, true, false, not, false≢true}
-use mathlib.Core.Logic.{_⊎_, ⊎-elim}
 use mathlib.Core.List.{List, _∷_}
 use mathlib.Core.Option.{some}
 use Prim.Native.Nat.{ℕ, _+_, _-_, _≤_, _<_}
@@ -30,8 +29,8 @@ use Rattle.answers.specs.declared.reply.ReplyAnswer.{ReplyAnswer}
 use Rattle.master.specs.declared.unit.DpMaster.{DpMaster}
 use Rattle.master.specs.Unit.{stateIs, balancesAre}
 use Rattle.master.specs.Reply.{openBalance, replyAt}
-use Rattle.valid.specs.Valid.{Valid, balance, occupied}
-use Rattle.valid.proofs.Balances.{marked-below}
+use Rattle.valid.specs.Valid.{Fits, Valid, balance, occupied}
+use Rattle.valid.proofs.Balances.{marked-below, open-there}
 use Rattle.log.specs.Calls.{World, lend, back, reply, replied, replyStep, replyNumber}
 use Rattle.log.specs.Words.{Entry, Note, got, target, Place, slotLog, placeNext, placeReplied, frameOf, occupiedIn, Moved, imageOf}
 use Rattle.log.specs.Promises.{frameIn}
@@ -102,7 +101,7 @@ module _ (w : World) (l : List Entry) (i : Inv w l) (address : ℕ) (r : Telegra
   pool-length = eqb-true _ _ (passed (eqb (length (lend ni (w .pools .inputs))) (w .unit .parameters .«input_pool»)) 2 _ two z)
 
   there : occupied (w .unit) (w .unit .state .«open_slot»)
-  there = ⊎-elim (λ e. absurd (false≢true (sym is-open ∙ eq-eqb (w .unit .state .«open_kind») 0 e))) (λ o. o) (i .valid .opened)
+  there = open-there (w .unit) (i .valid) is-open .there
 
   below : w .unit .state .«open_slot» < slots
   below = marked-below (w .unit) (i .valid) (w .unit .state .«open_slot») there
@@ -155,7 +154,7 @@ module _ (w : World) (l : List Entry) (i : Inv w l) (address : ℕ) (r : Telegra
         frame-is = rw (mode-is next (w .unit .state), k .aimed, ← i .frame-is, en) (ap (λ (q : Place). record { mode = frameIn (w .unit) .mode; marks = w .unit .occupied; place = q }) (rw en at (place-is next (w .unit .state))));
         told = λ s u.
             rw (k .aimed, ea)
-            (at-set (λ (q : Peripheral) (n : List Note). Told (q .station) n) ps notes x _ (got r payload event) here s (λ e. told-replied r p payload pool (lend nd (w .pools .diags)) (slotLog x l) (k .fit) (i .told x there)) (λ d. i .told s u));
+            (at-set (λ (q : Peripheral) (n : List Note). Told (q .station) n) ps notes x _ (got r payload event) here s (λ e. told-replied r p payload pool (lend nd (w .pools .diags)) (slotLog x l) (subst (Fits (p .station)) (sym (k .kind)) (open-there (w .unit) (i .valid) is-open .fit)) (i .told x there)) (λ d. i .told s u));
         link = λ c. absurd (false≢true (sym c ∙ closes next (w .unit .state)));
         images = λ s u.
             rw (k .aimed, ea)

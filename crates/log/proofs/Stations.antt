@@ -1,11 +1,11 @@
 -- One station and its own notes: what its state says of the notes is kept by each thing that can happen to it.
 -- The idea: the notes come into it as a few Bools (parameters, configuration, ready, due), and each row of the tables of visits and replies is one line.
-use mathlib.Core.Path.{_≡_, refl, sym, _∙_, subst}
+use mathlib.Core.Path.{_≡_, refl, sym, ap, _∙_, subst}
 use Prim.Native.Nat.{ℕ}
 use mathlib.Core.Bool.{Bool, true, false, not, _&&_, _||_}
 use mathlib.Core.List.{List, _∷_}
 use mathlib.Core.Option.{Option, none, some}
-use lib.Dec.{T, eqb, ltb}
+use lib.Dec.{T, eqb, eqb→eq}
 use lib.ListN.{length}
 use borrow.Author.Tests.{eqb-true, ltb-false, le-leb}
 use Rattle.parts.specs.Parts.{pick}
@@ -17,6 +17,7 @@ use Rattle.fdl.specs.declared.telegram.Telegram.{Telegram}
 use Rattle.fdl.specs.declared.telegram.Telegram.the-variants.{ShortConfirmation, Data as DataReply, Token, Request as RequestTelegram}
 use Rattle.telegrams.specs.declared.request.Request.{Request}
 use Rattle.telegrams.specs.declared.request.Request.the-variants.{Diagnosis, Parameters, Configuration, Data}
+use Rattle.telegrams.specs.Request.{kindNumber}
 use Rattle.telegrams.specs.Diagnosis.{flag, diagnosisOf, taken}
 use Rattle.station.specs.declared.record.Station.{Station}
 use Rattle.station.specs.declared.reply.Heard.{Heard}
@@ -27,12 +28,13 @@ use Rattle.station.specs.declared.state.PeripheralState.the-variants.{Offline, 
 use Rattle.station.specs.declared.state.PeripheralEvent.the-variants.{Nothing, Configured, ConfigError, ParameterError}
 use Rattle.station.specs.State.{stateOf}
 use Rattle.station.specs.Record.{newOf, at, counting, cycling, dueIs, tookOf}
-use Rattle.station.specs.Visit.{wishIn, wishOf, visitedOf}
+use Rattle.station.specs.Visit.{wishOf, visitedOf}
 use Rattle.station.specs.Reply.{hears, isShort, acknowledgedOf, foundOf, byFlags, validatedOf, diagnosedOf, exchangedOf, statusReply, exchangeOf, heardIn, heardOf, awaitsData}
 use Rattle.station.proofs.Visits.{falls, asksData, wish-falls, wish-data}
 use Rattle.peripheral.specs.declared.record.Peripheral.{Peripheral}
 use Rattle.peripheral.specs.Reply.{stationTook, isImage, hearsOf}
-use Rattle.log.specs.Words.{Note, wasAdded, readdressed, wished, wentOffline, asked, got, isKind, lastAsked, spotless, confirms, denies, warns, cleans, isError, isDiagnosed, dueOf}
+use Rattle.valid.specs.Valid.{fits, Fits}
+use Rattle.log.specs.Words.{Note, wasAdded, readdressed, wished, wentOffline, asked, got, lastAsked, spotless, confirms, denies, warns, cleans, isError, isDiagnosed, dueOf}
 use Rattle.log.proofs.Wording.{hasParam, hasConfig, ready}
 
 -- ---- what is said
@@ -46,21 +48,14 @@ phase ValidateConfig hp hc rd = hc && not rd
 phase PreDataExchange hp hc rd = hc && rd
 phase DataExchange hp hc rd = hc && rd
 
--- which request may be open in a state; a wish may have come since
-abbrev pub fits : PeripheralState → Option Request → Bool → Bool
-fits Offline k d = isKind Diagnosis k
-fits WaitForParam k d = isKind Parameters k
-fits WaitForConfig k d = isKind Configuration k
-fits ValidateConfig k d = isKind Diagnosis k
-fits PreDataExchange k d = isKind Data k || (isKind Diagnosis k && d)
-fits DataExchange k d = isKind Data k || (isKind Diagnosis k && d)
+-- the number of a request, 0 for none
+abbrev pub askedNumber : Option Request → ℕ
+askedNumber none = 0
+askedNumber (some k) = kindNumber k
 
 pub record Told (s : Station) (l : List Note) : Type 0 where
   pub due-is : s .«diag_needed» ≡ dueOf l
   pub in-phase : T (phase (stateOf (s .state)) (hasParam l) (hasConfig l) (ready l))
-
-abbrev pub Fits : Station → List Note → Type 0
-Fits s l = T (fits (stateOf (s .state)) (lastAsked l) (s .«diag_needed»))
 
 -- ---- added, reset, wished
 
@@ -96,26 +91,6 @@ same-words DataExchange hp false rd h = absurd h
 pub told-wished : (s : Station) (l : List Note) → Told s l → Told (dueIs true s) (wished ∷ l)
 told-wished s l i = record { due-is = refl; in-phase = same-words (stateOf (s .state)) (hasParam l) (hasConfig l) (ready l) (i .in-phase) }
 
--- a request that was open still fits when a wish comes
-fits-due : (x : PeripheralState) (k : Option Request) (d : Bool) → T (fits x k d) → T (fits x k true)
-fits-due Offline k d h = h
-fits-due WaitForParam k d h = h
-fits-due WaitForConfig k d h = h
-fits-due ValidateConfig k d h = h
-fits-due PreDataExchange none d h = absurd h
-fits-due PreDataExchange (some Diagnosis) d h = tt
-fits-due PreDataExchange (some Parameters) d h = absurd h
-fits-due PreDataExchange (some Configuration) d h = absurd h
-fits-due PreDataExchange (some Data) d h = tt
-fits-due DataExchange none d h = absurd h
-fits-due DataExchange (some Diagnosis) d h = tt
-fits-due DataExchange (some Parameters) d h = absurd h
-fits-due DataExchange (some Configuration) d h = absurd h
-fits-due DataExchange (some Data) d h = tt
-
-pub fits-wished : (s : Station) (l : List Note) → Fits s l → Fits (dueIs true s) (wished ∷ l)
-fits-wished s l h = fits-due (stateOf (s .state)) (lastAsked l) (s .«diag_needed») h
-
 -- ---- the visit
 
 -- what it enters in the notes
@@ -128,37 +103,6 @@ pub told-visited : (v : Visited) (s : Station) (l : List Note) → Told s l → 
 told-visited (Sent k) s l i = record { due-is = i .due-is; in-phase = same-words (stateOf (s .state)) (hasParam l) (hasConfig l) (ready l) (i .in-phase) }
 told-visited Fell s l i = record { due-is = i .due-is; in-phase = tt }
 told-visited Skipped s l i = record { due-is = i .due-is; in-phase = i .in-phase }
-
--- what is sent fits the state
-abbrev pub fitsVisit : PeripheralState → Bool → Visited → Bool
-fitsVisit x d (Sent k) = fits x (some k) d
-fitsVisit x d Fell = true
-fitsVisit x d Skipped = true
-
-module _ (user config : Bool) (s : Station) where
-  one-of : (x : PeripheralState) (d b : Bool) (v : Visited) → T (fitsVisit x d v) → T (fitsVisit x d (pick b v Skipped))
-  one-of x d true v h = h
-  one-of x d false v h = tt
-
-  by-due : (x : PeripheralState) (d : Bool) → T (fitsVisit x true (Sent Diagnosis)) → T (fitsVisit x false (Sent Data)) → T (fitsVisit x d (pick d (Sent Diagnosis) (Sent Data)))
-  by-due x true a b = a
-  by-due x false a b = b
-
-  wish-fits-in : (x : PeripheralState) → T (fitsVisit x (s .«diag_needed») (wishIn x user config s))
-  wish-fits-in Offline = one-of Offline (s .«diag_needed») (eqb (s .«retry_count») 0) (Sent Diagnosis) tt
-  wish-fits-in WaitForParam = one-of WaitForParam (s .«diag_needed») user (Sent Parameters) tt
-  wish-fits-in WaitForConfig = one-of WaitForConfig (s .«diag_needed») config (Sent Configuration) tt
-  wish-fits-in ValidateConfig = tt
-  wish-fits-in PreDataExchange = by-due PreDataExchange (s .«diag_needed») tt tt
-  wish-fits-in DataExchange = by-due DataExchange (s .«diag_needed») tt tt
-
-  above : (x : PeripheralState) (d b : Bool) (v : Visited) → T (fitsVisit x d v) → T (fitsVisit x d (pick b Fell v))
-  above x d true v h = tt
-  above x d false v h = h
-
-  pub wish-fits : (limit : ℕ) → T (fitsVisit (stateOf (s .state)) (s .«diag_needed») (wishOf limit user config s))
-  unfolding wishOf
-  wish-fits limit = above (stateOf (s .state)) (s .«diag_needed») (ltb limit (s .«retry_count»)) _ (wish-fits-in (stateOf (s .state)))
 
 -- data is waited for exactly when no diagnosis is due and the notes say ready
 data-when : (x : PeripheralState) (d hp hc rd : Bool) → T (phase x hp hc rd) → awaitsData x d ≡ (not d && rd)
@@ -310,7 +254,7 @@ module _ (p s : Station) (x : PeripheralState) (px : stateOf (p .state) ≡ x) (
       (status p s x false px sx pd sd keep (statusOf n) b hp refl))
 
   in-exchange : (d : Bool) (t : Telegram) (k : Option Request) (payload : List ℕ) (b empty fit hp hc rd : Bool) → p .«diag_needed» ≡ d → s .«diag_needed» ≡ d
-      → T (isKind Data k || (isKind Diagnosis k && d)) → T (hc && rd) → KeptBy (exchangeOf d t b s empty fit p) k t payload hp hc rd d
+      → T (fits DataExchange d (askedNumber k)) → T (hc && rd) → KeptBy (exchangeOf d t b s empty fit p) k t payload hp hc rd d
   in-exchange d t k payload b empty fit hp false rd pd sd f h = absurd h
   in-exchange d t k payload b empty fit hp true false pd sd f h = absurd h
   in-exchange d t none payload b empty fit hp true true pd sd f h = absurd f
@@ -324,24 +268,20 @@ module _ (p s : Station) (x : PeripheralState) (px : stateOf (p .state) ≡ x) (
   in-exchange false Token (some Data) payload b empty fit hp true true pd sd f h = record { due-ok = pd; phase-ok = stays (p .state) x _ _ _ px (keep _ _ _ tt) }
   in-exchange false RequestTelegram (some Data) payload b empty fit hp true true pd sd f h = record { due-ok = pd; phase-ok = stays (p .state) x _ _ _ px (keep _ _ _ tt) }
 
-kind-is : (q : Request) (k : Option Request) → T (isKind q k) → k ≡ some q
-kind-is q none h = absurd h
-kind-is Diagnosis (some Diagnosis) h = refl
-kind-is Diagnosis (some Parameters) h = absurd h
-kind-is Diagnosis (some Configuration) h = absurd h
-kind-is Diagnosis (some Data) h = absurd h
-kind-is Parameters (some Diagnosis) h = absurd h
-kind-is Parameters (some Parameters) h = refl
-kind-is Parameters (some Configuration) h = absurd h
-kind-is Parameters (some Data) h = absurd h
-kind-is Configuration (some Diagnosis) h = absurd h
-kind-is Configuration (some Parameters) h = absurd h
-kind-is Configuration (some Configuration) h = refl
-kind-is Configuration (some Data) h = absurd h
-kind-is Data (some Diagnosis) h = absurd h
-kind-is Data (some Parameters) h = absurd h
-kind-is Data (some Configuration) h = absurd h
-kind-is Data (some Data) h = refl
+-- a request by its number
+named : ℕ → Option Request
+named n = pick (eqb n 1) (some Diagnosis) (pick (eqb n 2) (some Parameters) (pick (eqb n 3) (some Configuration) (pick (eqb n 4) (some Data) none)))
+
+named-asked : (k : Option Request) → named (askedNumber k) ≡ k
+unfolding named
+named-asked none = refl
+named-asked (some Diagnosis) = refl
+named-asked (some Parameters) = refl
+named-asked (some Configuration) = refl
+named-asked (some Data) = refl
+
+kind-is : (q : Request) (k : Option Request) → T (eqb (askedNumber k) (kindNumber q)) → k ≡ some q
+kind-is q k h = sym (named-asked k) ∙ ap named (eqb→eq (askedNumber k) (kindNumber q) h) ∙ named-asked (some q)
 
 module _ (p s : Station) (t : Telegram) (payload : List ℕ) (d empty fit hp hc rd : Bool) (pd : p .«diag_needed» ≡ d) (sd : s .«diag_needed» ≡ d) (fl : s .diag .flags ≡ diagnosisOf payload .flags) where
   b : Bool
@@ -354,7 +294,7 @@ module _ (p s : Station) (t : Telegram) (payload : List ℕ) (d empty fit hp hc 
       (in-validate p s ValidateConfig d px sx pd sd b hp hc rd refl h)
 
   -- the answers that fit the state
-  in-state : (x : PeripheralState) (k : Option Request) → stateOf (p .state) ≡ x → stateOf (s .state) ≡ x → T (fits x k d) → T (phase x hp hc rd) → KeptBy (heardIn x t b s empty fit p) k t payload hp hc rd d
+  in-state : (x : PeripheralState) (k : Option Request) → stateOf (p .state) ≡ x → stateOf (s .state) ≡ x → T (fits x d (askedNumber k)) → T (phase x hp hc rd) → KeptBy (heardIn x t b s empty fit p) k t payload hp hc rd d
   in-state Offline k px sx f h =
       subst (λ (y : Option Request). KeptBy (foundOf b s p) y t payload hp hc rd d) (sym (kind-is Diagnosis k f)) (in-offline p s Offline d px sx pd sd b (spotless t payload) hp hc rd refl h)
   in-state WaitForParam k px sx f h =
@@ -377,10 +317,10 @@ told-kept : (h : Heard) (t : Telegram) (payload : List ℕ) (l : List Note) → 
 told-kept h t payload l k = record { due-is = k .due-ok; in-phase = k .phase-ok }
 
 -- a reply to the request that is open
-pub told-replied : (t : Telegram) (p : Peripheral) (payload inputs diags : List ℕ) (l : List Note) → Fits (p .station) l → Told (p .station) l
+pub told-replied : (t : Telegram) (p : Peripheral) (payload inputs diags : List ℕ) (l : List Note) → Fits (p .station) (askedNumber (lastAsked l)) → Told (p .station) l
     → Told (hearsOf t p payload inputs diags .station) (got t payload (hearsOf t p payload inputs diags .event) ∷ l)
 unfolding hearsOf heardOf stationTook tookOf b
 told-replied t p payload inputs diags l f i =
     told-kept (hearsOf t p payload inputs diags) t payload l
     (in-state (p .station) (stationTook p payload diags) t payload (dueOf l) (eqb (p .ranges .«input_len») 0) (isImage p payload inputs) (hasParam l) (hasConfig l) (ready l)
-    (i .due-is) (i .due-is) refl (stateOf (p .station .state)) (lastAsked l) refl refl (subst (λ (d : Bool). T (fits (stateOf (p .station .state)) (lastAsked l) d)) (i .due-is) f) (i .in-phase))
+    (i .due-is) (i .due-is) refl (stateOf (p .station .state)) (lastAsked l) refl refl (subst (λ (d : Bool). T (fits (stateOf (p .station .state)) d (askedNumber (lastAsked l)))) (i .due-is) f) (i .in-phase))

@@ -43,12 +43,12 @@ use Rattle.master.specs.Turn.{sweepFrom, stepAt, sweptBy, unitTurned, askedIn, 
 use Rattle.master.specs.Unit.{stateIs, balancesAre, balanceAt}
 use Rattle.master.proofs.Bits.{bit, zero-bit}
 use Rattle.valid.specs.Valid.{Valid, balance, occupied}
-use Rattle.valid.proofs.Balances.{marked-below}
+use Rattle.valid.proofs.Balances.{marked-below, open-there}
 use Rattle.log.specs.Calls.{World, lend, turn, turned, unitIs, step}
-use Rattle.log.specs.Words.{Entry, Note, wentOffline, asked, Place, target, isOffline, bitSet, reportedOffline, noteAsked, slotLog, placeTurned, slotAsked, upTo, reached, isKind, dueOf, imageOf, asksData}
+use Rattle.log.specs.Words.{Entry, Note, wentOffline, asked, Place, target, isOffline, bitSet, reportedOffline, noteAsked, slotLog, placeTurned, slotAsked, upTo, reached, isKind, lastAsked, dueOf, imageOf, asksData}
 use Rattle.log.specs.Promises.{MaskEvent}
 use Rattle.log.proofs.Wording.{ready}
-use Rattle.log.proofs.Stations.{Told, Fits, fitsVisit, visitNote, told-visited, wish-fits, asked-when}
+use Rattle.log.proofs.Stations.{Told, askedNumber, visitNote, told-visited, asked-when}
 use Rattle.log.proofs.Visits.{kindSent, wentTo, kindOf, Swung, all-visits, Lowest, Firsts, all-first, empty-bit}
 use Rattle.log.proofs.Units.{Link, Inv, InvAt}
 
@@ -161,16 +161,14 @@ module _ (v : Visited) (p q : Peripheral) (l : List Note) where
       by-visit Skipped = refl
 
   -- the request that went to it
-  fits-by : (b : Bool) (k : Request) → q ≡ pick b (stationIs (visitedOf v (p .station)) p) p → some k ≡ pick b (kindOf v) none → T (fitsVisit (stateOf (p .station .state)) (p .station .«diag_needed») v)
-      → Fits (q .station) (pick (b && falls v) (wentOffline ∷ l) (noteKind (pick b (kindOf v) none) l))
-  fits-by false k e z f = absurd (Option·none-ne-some k (sym z))
-  fits-by true k e z f = rw e (by-visit v z f)
+  kind-by : (b : Bool) (k : Request) → some k ≡ pick b (kindOf v) none → askedNumber (lastAsked (pick (b && falls v) (wentOffline ∷ l) (noteKind (pick b (kindOf v) none) l))) ≡ kindNumber k
+  kind-by false k z = absurd (Option·none-ne-some k (sym z))
+  kind-by true k z = by-visit v z
     where
-      by-visit : (v : Visited) → some k ≡ kindOf v → T (fitsVisit (stateOf (p .station .state)) (p .station .«diag_needed») v)
-          → Fits (visitedOf v (p .station)) (pick (falls v) (wentOffline ∷ l) (noteKind (kindOf v) l))
-      by-visit (Sends r) z f = f
-      by-visit Fell z f = absurd (Option·none-ne-some k (sym z))
-      by-visit Skipped z f = absurd (Option·none-ne-some k (sym z))
+      by-visit : (v : Visited) → some k ≡ kindOf v → askedNumber (lastAsked (pick (falls v) (wentOffline ∷ l) (noteKind (kindOf v) l))) ≡ kindNumber k
+      by-visit (Sends r) z = ap askedNumber (sym z)
+      by-visit Fell z = absurd (Option·none-ne-some k (sym z))
+      by-visit Skipped z = absurd (Option·none-ne-some k (sym z))
 
 -- ---- the turn
 
@@ -185,7 +183,7 @@ module _ (w : World) (l : List Entry) (i : Inv w l) where
   starts Stopped = omega arith
   starts Control = omega arith
   starts Back = omega arith
-  starts Visits = omega (arith, i .valid .place)
+  starts Visits = omega (arith, i .valid .standing .place)
 
   firsts : (step : Step) → Firsts slots (sweptBy step (w .unit) .seen)
   unfolding sweptBy
@@ -228,14 +226,13 @@ module _ (w : World) (l : List Entry) (i : Inv w l) where
     entry step = record { call = turn time high ns nq buf; answer = turned (turnAnswer step (sweptBy step (w .unit)) (w .unit) payload buf) out }
 
     link-open : (t : ℕ) (k : Request) → sweptBy Visits (w .unit) .seen .sent ≡ To t k → occupied (w .unit) t
-        → Fits (getD (sweptBy Visits (w .unit) .balances) t blank .station) (slotLog t (entry Visits ∷ l))
+        → askedNumber (lastAsked (slotLog t (entry Visits ∷ l))) ≡ kindNumber k
     unfolding entry
     link-open t k e o =
         let p = balance (w .unit) t in
         let x = swung Visits t o in
-        subst (Fits (getD (sweptBy Visits (w .unit) .balances) t blank .station)) (sym (notes-are Visits payload buf t o (slotLog t l)))
-        (fits-by (wishesOf (w .unit .parameters .«max_retry_limit») p) p (getD (sweptBy Visits (w .unit) .balances) t blank) (slotLog t l) (x .visited) k (x .balance) (kind-here t k (sweptBy Visits (w .unit) .seen .sent) _ e (x .kind))
-        (wish-fits (p .options .«has_user_parameters») (p .options .«has_config») (p .station) (w .unit .parameters .«max_retry_limit»)))
+        ap (λ (y : List Note). askedNumber (lastAsked y)) (notes-are Visits payload buf t o (slotLog t l))
+        ∙ kind-by (wishesOf (w .unit .parameters .«max_retry_limit») p) p p (slotLog t l) (x .visited) k (kind-here t k (sweptBy Visits (w .unit) .seen .sent) _ e (x .kind))
 
     target-open : (t : ℕ) (k : Request) → sweptBy Visits (w .unit) .seen .sent ≡ To t k → target (entry Visits ∷ l) ≡ some t
     unfolding entry turnAnswer
@@ -251,7 +248,7 @@ module _ (w : World) (l : List Entry) (i : Inv w l) where
     link-turn Visits (To t k) e v c =
         record {
           aimed = target-open t k e;
-          fit = link-open t k e (⊎-elim (λ q. absurd (false≢true (sym c ∙ eq-eqb (kindNumber k) 0 q))) (λ o. o) (v .opened));
+          kind = link-open t k e (open-there _ v c .there);
         }
 
     pub inv-turn : let step = stepAt time high (w .unit) in

@@ -1,22 +1,20 @@
 -- An add keeps a unit valid.
 -- The idea: the new ranges start where the used parts end, so they are apart from every other and inside the new used parts.
-use mathlib.Core.Path.{_≡_, refl, sym, ap, _∙_, subst}
-use mathlib.Core.Bool.{Bool, true, false, not, _&&_, false≢true}
+use mathlib.Core.Path.{_≡_, refl, sym, _∙_, subst}
+use mathlib.Core.Bool.{true, false, false≢true}
 use mathlib.Core.Logic.{_⊎_, inl, inr, ⊎-elim}
 use mathlib.Core.List.{List}
-use Prim.Native.Nat.{ℕ, _+_, _-_, _≤_, _<_}
+use Prim.Native.Nat.{ℕ, _<_}
 use native.Mathlib.Omega.{arith}
-use lib.ListN.{length, getD, set, length-set}
+use lib.ListN.{length, getD, length-set}
 use lib.Seq.{getD-set-same, getD-set-other}
-use lib.Dec.{eqb, ltb, leb}
+use lib.Dec.{eqb}
 use borrow.Author.Tests.{eqb-true, eqb-false, not-true}
-use Rattle.parts.specs.Parts.{pick}
 use Rattle.parts.proofs.Laws.{by-test}
 use Rattle.peripheral.specs.declared.record.Peripheral.{Peripheral}
 use Rattle.peripheral.specs.Record.{blank, newOf}
 use Rattle.peripheral_set.specs.Marks.{slots, firstEmpty}
 use Rattle.peripheral_set.proofs.Laws.{search-found}
-use Rattle.cycle.specs.declared.refusal.Used.{Used}
 use Rattle.cycle.specs.declared.refusal.Lent.{Lent}
 use Rattle.cycle.specs.declared.refusal.Lengths.{Lengths}
 use Rattle.cycle.specs.Refusal.{addressRefusal, lengthRefusal, roomRefusal, addRefusal}
@@ -26,8 +24,9 @@ use Rattle.master.specs.declared.unit.DpMaster.{DpMaster}
 use Rattle.master.specs.declared.add.Addition.{Addition}
 use Rattle.master.specs.declared.add.Added.{Added}
 use Rattle.master.specs.Add.{rangesAt, usedAfter, optionsHeld, unitAdded, lengthsOf, refusalOf, Adding}
-use Rattle.valid.specs.Valid.{Sound, Placed, Apart, Within, Valid, occupied, balance}
+use Rattle.valid.specs.Valid.{Sound, Placed, Apart, Fits, Valid, occupied, balance}
 use Rattle.valid.proofs.Stations.{sound-new}
+use Rattle.valid.proofs.Balances.{standing-kept}
 
 module _ (m : DpMaster) (a : Addition) (l : Lengths) (v : Valid m) where
   slot : ℕ
@@ -40,30 +39,22 @@ module _ (m : DpMaster) (a : Addition) (l : Lengths) (v : Valid m) where
     was-empty : getD (m .occupied) (firstEmpty (m .occupied)) false ≡ false
     was-empty = not-true _ (search-found slots false (m .occupied) slots 0 b)
 
-    -- a slot that is occupied afterwards is the new one, or was so before and has the same balance
-    which : (i : ℕ) → occupied (unitAdded m a l) i → ((i ≡ slot) × (balance (unitAdded m a l) i ≡ fresh)) ⊎ (((i ≡ slot) → ⊥) × (occupied m i) × (balance (unitAdded m a l) i ≡ balance m i))
+    -- every slot is the new one, or is as it was
+    which : (i : ℕ) → ((i ≡ slot) × (occupied (unitAdded m a l) i) × (balance (unitAdded m a l) i ≡ fresh))
+        ⊎ ((i ≡ slot → ⊥) × (getD (unitAdded m a l .occupied) i false ≡ getD (m .occupied) i false) × (balance (unitAdded m a l) i ≡ balance m i))
     unfolding slot fresh
-    which i o =
+    which i =
         by-test (eqb i (firstEmpty (m .occupied)))
-        (λ e. let w = eqb-true i (firstEmpty (m .occupied)) e in inl (w, subst (λ (j : ℕ). getD (set (m .peripherals) (firstEmpty (m .occupied)) fresh) j blank ≡ fresh) (sym w) (getD-set-same (m .peripherals) (firstEmpty (m .occupied)) fresh blank (omega (arith, v .table)))))
+        (λ e.
+        let w : i ≡ firstEmpty (m .occupied) = eqb-true i (firstEmpty (m .occupied)) e in
+        inl (w, rw (w, getD-set-same (m .occupied) (firstEmpty (m .occupied)) true false (omega (arith, v .marks))) refl, rw (w, getD-set-same (m .peripherals) (firstEmpty (m .occupied)) fresh blank (omega (arith, v .table))) refl))
         (λ e.
         let d = eqb-false i (firstEmpty (m .occupied)) e in
-        inr (d, sym (getD-set-other (m .occupied) (firstEmpty (m .occupied)) i true false d) ∙ o, getD-set-other (m .peripherals) (firstEmpty (m .occupied)) i fresh blank d))
+        inr (d, getD-set-other (m .occupied) (firstEmpty (m .occupied)) i true false d, getD-set-other (m .peripherals) (firstEmpty (m .occupied)) i fresh blank d))
 
-    new-placed : Placed (usedAfter (m .used) l) fresh
-    unfolding fresh
-    new-placed =
-        record {
-          user = user-fits l al;
-          config = config-fits l al;
-          inputs = inputs-fit l al;
-          outputs = outputs-fit l al;
-          room = room-fits l al;
-          setupEnd = omega arith;
-          inputEnd = omega arith;
-          outputEnd = omega arith;
-          diagEnd = omega arith;
-        }
+    -- what holds of the new balance and of each that was there holds of each that is there
+    each : (P : Peripheral → Type 0) (i : ℕ) → occupied (unitAdded m a l) i → (i ≡ slot → P fresh) → ((i ≡ slot → ⊥) → occupied m i → P (balance m i)) → P (balance (unitAdded m a l) i)
+    each P i o new old = ⊎-elim (λ w. subst P (sym (w .2)) (new (w .0))) (λ w. subst P (sym (w .2)) (old (w .0) (sym (w .1) ∙ o))) (which i)
 
     old-placed : (p : Peripheral) → Placed (m .used) p → Placed (usedAfter (m .used) l) p
     old-placed p g =
@@ -73,6 +64,8 @@ module _ (m : DpMaster) (a : Addition) (l : Lengths) (v : Valid m) where
           inputs = g .inputs;
           outputs = g .outputs;
           room = g .room;
+          noUser = g .noUser;
+          noConfig = g .noConfig;
           setupEnd = omega (arith, g .setupEnd);
           inputEnd = omega (arith, g .inputEnd);
           outputEnd = omega (arith, g .outputEnd);
@@ -87,43 +80,48 @@ module _ (m : DpMaster) (a : Addition) (l : Lengths) (v : Valid m) where
     unfolding fresh
     apart-new p g = record { setup = inl (g .setupEnd); inputs = inl (g .inputEnd); outputs = inl (g .outputEnd); diags = inl (g .diagEnd) }
 
-    still : (i : ℕ) → occupied m i → occupied (unitAdded m a l) i
-    still i o =
-        by-test (eqb i (firstEmpty (m .occupied)))
-        (λ e. absurd (false≢true (sym (subst (λ (j : ℕ). getD (m .occupied) j false ≡ false) (sym (eqb-true i (firstEmpty (m .occupied)) e)) was-empty) ∙ o)))
-        (λ e. getD-set-other (m .occupied) (firstEmpty (m .occupied)) i true false (eqb-false i (firstEmpty (m .occupied)) e) ∙ o)
+    -- the slot of an open request was occupied, so it is another
+    still-asked : (t k : ℕ) → occupied m t → Fits (balance m t .station) k → (occupied (unitAdded m a l) t) × Fits (balance (unitAdded m a l) t .station) k
+    unfolding slot
+    still-asked t k o f =
+        ⊎-elim (λ w. absurd (false≢true (sym was-empty ∙ subst (occupied m) (w .0) o))) (λ w. (w .1 ∙ o, subst (λ (p : Peripheral). Fits (p .station) k) (sym (w .2)) f)) (which t)
 
-    abbrev SoundBalance : Peripheral → Type 0
-    SoundBalance p = Sound (p .station .address) (m .parameters .«max_retry_limit») (p .ranges .«diag_room») (p .station)
+    module _ (user : a .options .«has_user_parameters» ≡ false → l .user ≡ 0) (config : a .options .«has_config» ≡ false → l .config ≡ 0) where
+      new-placed : Placed (usedAfter (m .used) l) fresh
+      unfolding fresh
+      new-placed =
+          record {
+            user = user-fits l al;
+            config = config-fits l al;
+            inputs = inputs-fit l al;
+            outputs = outputs-fit l al;
+            room = room-fits l al;
+            noUser = user;
+            noConfig = config;
+            setupEnd = omega arith;
+            inputEnd = omega arith;
+            outputEnd = omega arith;
+            diagEnd = omega arith;
+          }
 
-    added : addressRefusal (m .parameters) (a .address) ≡ 0 → roomRefusal (m .parameters) (m .used) l ≡ 0 → Valid (unitAdded m a l)
-    unfolding slot fresh
-    added aa ar =
-        record {
-          parameters = v .parameters;
-          marks = simp length-set (v .marks);
-          table = simp length-set (v .table);
-          within = record { setup = setup-room (m .parameters) (m .used) l ar; inputs = input-room (m .parameters) (m .used) l ar; outputs = output-room (m .parameters) (m .used) l ar; diags = diag-room (m .parameters) (m .used) l ar };
-          sound = λ i o.
-              ⊎-elim (λ w. subst SoundBalance (sym (w .1)) (sound-new (a .address) (m .parameters .«max_retry_limit») (l .room))) (λ w. subst SoundBalance (sym (w .2)) (v .sound i (w .1))) (which i o);
-          address = λ i o.
-              ⊎-elim (λ w. subst (λ (p : Peripheral). addressRefusal (m .parameters) (p .station .address) ≡ 0) (sym (w .1)) aa)
-              (λ w. subst (λ (p : Peripheral). addressRefusal (m .parameters) (p .station .address) ≡ 0) (sym (w .2)) (v .address i (w .1))) (which i o);
-          placed = λ i o.
-              ⊎-elim (λ w. subst (Placed (usedAfter (m .used) l)) (sym (w .1)) new-placed) (λ w. subst (Placed (usedAfter (m .used) l)) (sym (w .2)) (old-placed (balance m i) (v .placed i (w .1)))) (which i o);
-          apart = λ i j o r d.
-              ⊎-elim
-              (λ w.
-              ⊎-elim (λ x. absurd (d (w .0 ∙ sym (x .0))))
-              (λ x. subst (λ (p : Peripheral). Apart p (balance (unitAdded m a l) j)) (sym (w .1)) (subst (Apart fresh) (sym (x .2)) (new-apart (balance m j) (v .placed j (x .1))))) (which j r))
-              (λ w.
-              ⊎-elim (λ x. subst (λ (p : Peripheral). Apart p (balance (unitAdded m a l) j)) (sym (w .2)) (subst (Apart (balance m i)) (sym (x .1)) (apart-new (balance m i) (v .placed i (w .1)))))
-              (λ x. subst (λ (p : Peripheral). Apart p (balance (unitAdded m a l) j)) (sym (w .2)) (subst (Apart (balance m i)) (sym (x .2)) (v .apart i j (w .1) (x .1) d))) (which j r))
-              (which i o);
-          place = v .place;
-          opened = ⊎-elim (λ e. inl e) (λ o. inr (still (m .state .«open_slot») o)) (v .opened);
-          times = v .times;
-        }
+      added : addressRefusal (m .parameters) (a .address) ≡ 0 → roomRefusal (m .parameters) (m .used) l ≡ 0 → Valid (unitAdded m a l)
+      unfolding slot fresh
+      added aa ar =
+          record {
+            parameters = v .parameters;
+            marks = simp length-set (v .marks);
+            table = simp length-set (v .table);
+            within = record { setup = setup-room (m .parameters) (m .used) l ar; inputs = input-room (m .parameters) (m .used) l ar; outputs = output-room (m .parameters) (m .used) l ar; diags = diag-room (m .parameters) (m .used) l ar };
+            sound = λ i o. each (λ (p : Peripheral). Sound (m .parameters .«max_retry_limit») (p .ranges .«diag_room») (p .station)) i o (λ e. sound-new (a .address) (m .parameters .«max_retry_limit») (l .room)) (λ d q. v .sound i q);
+            address = λ i o. each (λ (p : Peripheral). addressRefusal (m .parameters) (p .station .address) ≡ 0) i o (λ e. aa) (λ d q. v .address i q);
+            placed = λ i o. each (Placed (usedAfter (m .used) l)) i o (λ e. new-placed) (λ d q. old-placed (balance m i) (v .placed i q));
+            apart = λ i j o r d.
+                each (λ (p : Peripheral). Apart p (balance (unitAdded m a l) j)) i o
+                (λ e. each (Apart fresh) j r (λ f. absurd (d (e ∙ sym f))) (λ f q. new-apart (balance m j) (v .placed j q)))
+                (λ e p. each (Apart (balance m i)) j r (λ f. apart-new (balance m i) (v .placed i p)) (λ f q. v .apart i j p q d));
+            empty = λ i e. ⊎-elim (λ w. absurd (false≢true (sym e ∙ w .1))) (λ w. w .2 ∙ v .empty i (sym (w .1) ∙ e)) (which i);
+            standing = standing-kept m (usedAfter (m .used) l) (unitAdded m a l .occupied) (unitAdded m a l .peripherals) (v .standing) (still-asked (m .state .«open_slot») (m .state .«open_kind»));
+          }
 
 pub add-valid : (m : DpMaster) (a : Addition) (user config setup inputs outputs diags outSetup outInputs outOutputs outDiags : List ℕ) (r : Added)
     → Adding m a user config setup inputs outputs diags outSetup outInputs outOutputs outDiags r → Valid m → Valid (r .master)
@@ -135,6 +133,6 @@ add-valid m a user config setup inputs outputs diags outSetup outInputs outOutpu
     (λ e.
     let z : addRefusal (m .parameters) (m .used) lent (firstEmpty (m .occupied)) (a .address) l ≡ 0 = eqb-true n 0 e in
     subst Valid (sym (c .after ∙ rw e refl))
-    (added m a l v (add-slot (m .parameters) (m .used) lent (firstEmpty (m .occupied)) (a .address) l z) (add-lengths (m .parameters) (m .used) lent (firstEmpty (m .occupied)) (a .address) l z)
+    (added m a l v (add-slot (m .parameters) (m .used) lent (firstEmpty (m .occupied)) (a .address) l z) (add-lengths (m .parameters) (m .used) lent (firstEmpty (m .occupied)) (a .address) l z) (λ f. rw f refl) (λ f. rw f refl)
     (add-address (m .parameters) (m .used) lent (firstEmpty (m .occupied)) (a .address) l z) (add-room (m .parameters) (m .used) lent (firstEmpty (m .occupied)) (a .address) l z)))
     (λ e. subst Valid (sym (c .after ∙ rw e refl)) v)

@@ -1,78 +1,90 @@
 -- Creation gives a valid unit, and entering a state, a wish and a reset keep it so.
 -- The idea: each of them replaces the state, or one balance by one with the same ranges.
-use mathlib.Core.Path.{_≡_, refl, sym, ap, _∙_, subst}
-use mathlib.Core.Bool.{Bool, true, false, _&&_, false≢true}
-use mathlib.Core.Logic.{_⊎_, inl, inr, ⊎-elim}
-use mathlib.Core.List.{List}
-use Prim.Native.Nat.{ℕ, _+_, _≤_, _<_}
+use mathlib.Core.Path.{_≡_, refl, sym, _∙_}
+use mathlib.Core.Bool.{Bool, true, false, false≢true}
+use mathlib.Core.Logic.{inl, inr, ⊎-elim}
+use Prim.Native.Nat.{ℕ, _≤_, _<_}
 use native.Mathlib.Omega.{arith}
-use lib.ListN.{length, getD, set, replicate, length-replicate, getD-replicate, List·getD-eq-default}
-use lib.Dec.{eqb, ltb, leb}
+use lib.ListN.{getD, set, replicate, length-replicate, getD-replicate, List·getD-eq-default}
+use lib.Seq.{getD-set-same, getD-set-other}
+use lib.Dec.{eqb, ltb}
 use borrow.Author.Tests.{eqb-true, eqb-false, ltb-true, ltb-false, lt-ltb}
 use Rattle.parts.specs.Parts.{pick}
 use Rattle.parts.proofs.Laws.{by-test, and-left, and-right}
 use Rattle.fdl.specs.declared.parameters.Parameters.{Parameters}
 use Rattle.fdl.specs.Params.{inRange, held, lowest}
+use Rattle.station.specs.State.{stateOf}
 use Rattle.station.specs.Record.{newOf, dueIs}
 use Rattle.peripheral.specs.declared.record.Peripheral.{Peripheral}
 use Rattle.peripheral.specs.Record.{blank, resetOf, stationIs}
 use Rattle.peripheral_set.specs.declared.PeripheralHandle.{PeripheralHandle}
 use Rattle.peripheral_set.specs.Marks.{slots, isOccupied, handleRefusal}
-use Rattle.cycle.specs.declared.state.DpMasterState.{DpMasterState}
 use Rattle.cycle.specs.declared.state.OperatingState.{OperatingState}
+use Rattle.cycle.specs.declared.state.OperatingState.the-variants.{Stop, Clear, Operate}
 use Rattle.cycle.specs.Seen.{indexOf}
-use Rattle.cycle.specs.State.{entered, placed, closedFor}
+use Rattle.cycle.specs.State.{operatingNumber, entered, placed, closedFor}
 use Rattle.cycle.specs.Refusal.{addressRefusal}
 use Rattle.cycle.proofs.Laws.{or-first, or-then}
 use Rattle.master.specs.declared.unit.DpMaster.{DpMaster}
-use Rattle.master.specs.Unit.{emptyUnit, createdOf, stateIs, balancesAre, balanceAt}
-use Rattle.master.specs.Handle.{resetRefusal, balanceIs, doneBy, resetDone, wishDone}
-use Rattle.valid.specs.Valid.{Sound, Within, Valid, occupied}
-use Rattle.valid.proofs.Stations.{sound-new, sound-due}
-use Rattle.valid.proofs.Balances.{next-same, valid-on, valid-set, marked-below, sound-by}
+use Rattle.master.specs.Unit.{emptyUnit, createdOf, stateIs, balancesAre}
+use Rattle.master.specs.Handle.{resetRefusal, resetDone, wishDone}
+use Rattle.valid.specs.Valid.{Held, Standing, Valid, occupied}
+use Rattle.valid.proofs.Stations.{sound-new, sound-due, fits-due}
+use Rattle.valid.proofs.Balances.{next-same, next-station, valid-on, valid-set, marked-below, standing-kept}
 
 -- ---- creation
 
-no-mark : (n i : ℕ) → getD (replicate n false) i false ≡ false
-no-mark n i =
-    by-test (ltb i n) (λ e. getD-replicate n i false false (ltb-true i n e))
-    (λ e. List·getD-eq-default (replicate n false) false (simp length-replicate (ltb-false i n e)))
+same-of {ℓ} : {A : Type ℓ} (n : ℕ) (a : A) (i : ℕ) → getD (replicate n a) i a ≡ a
+same-of n a i =
+    by-test (ltb i n) (λ e. getD-replicate n i a a (ltb-true i n e))
+    (λ e. List·getD-eq-default (replicate n a) a (simp length-replicate (ltb-false i n e)))
 
-valid-empty : (u : Parameters) → inRange u ≡ true → Valid (emptyUnit u)
+valid-empty : (u : Parameters) → Held u → Valid (emptyUnit u)
 unfolding emptyUnit
-valid-empty u r =
+valid-empty u h =
     record {
-      parameters = r;
+      parameters = h;
       marks = length-replicate slots false;
       table = length-replicate slots blank;
       within = record { setup = omega arith; inputs = omega arith; outputs = omega arith; diags = omega arith };
-      sound = λ i o. absurd (false≢true (sym (no-mark slots i) ∙ o));
-      address = λ i o. absurd (false≢true (sym (no-mark slots i) ∙ o));
-      placed = λ i o. absurd (false≢true (sym (no-mark slots i) ∙ o));
-      apart = λ i j o. absurd (false≢true (sym (no-mark slots i) ∙ o));
-      place = omega arith;
-      opened = inl refl;
-      times = omega arith;
+      sound = λ i o. absurd (false≢true (sym (same-of slots false i) ∙ o));
+      address = λ i o. absurd (false≢true (sym (same-of slots false i) ∙ o));
+      placed = λ i o. absurd (false≢true (sym (same-of slots false i) ∙ o));
+      apart = λ i j o. absurd (false≢true (sym (same-of slots false i) ∙ o));
+      empty = λ i e. same-of slots blank i;
+      standing = record { operating = omega arith; place = omega arith; times = omega arith; request = inl (record { slot = refl; kind = refl }) };
     }
 
-held-in-range : (u : Parameters) → inRange (held u) ≡ inRange u
+held-held : (u : Parameters) → inRange u ≡ true → Held (held u)
 unfolding inRange held
-held-in-range u = refl
+held-held u r = record { range = r; first = λ e. rw e refl; second = λ e. rw e refl }
 
-lowest-in-range : inRange lowest ≡ true
+lowest-held : Held lowest
 unfolding inRange lowest
-lowest-in-range = refl
+lowest-held = record { range = refl; first = λ e. refl; second = λ e. refl }
 
 -- a refused creation too
 pub created-valid : (u : Parameters) → Valid (createdOf u .master)
 unfolding createdOf
-created-valid u = by-test (inRange u) (λ r. rw r (valid-empty (held u) (held-in-range u ∙ r))) (λ r. rw r (valid-empty lowest lowest-in-range))
+created-valid u = by-test (inRange u) (λ r. rw r (valid-empty (held u) (held-held u r))) (λ r. rw r (valid-empty lowest lowest-held))
 
 -- ---- entering a state
 
+mode-number : (o : OperatingState) → operatingNumber o ≤ 2
+mode-number Stop = omega arith
+mode-number Clear = omega arith
+mode-number Operate = omega arith
+
 pub enter-valid : (m : DpMaster) (o : OperatingState) → Valid m → Valid (stateIs (entered o (m .state)) m)
 enter-valid m o v =
-    valid-on m v (m .peripherals) (entered o (m .state)) (λ i. next-same (m .parameters .«max_retry_limit») (getD (m .peripherals) i blank)) (v .table) (v .place) (v .opened) (omega arith)
+    let g = v .standing in
+    valid-on m v (m .peripherals) (entered o (m .state)) (λ i. next-same (m .parameters) (getD (m .occupied) i false) (getD (m .peripherals) i blank)) (v .table)
+    (record {
+      operating = mode-number o;
+      place = g .place;
+      times = omega arith;
+      request = ⊎-elim (λ c. inl (record { slot = c .slot; kind = c .kind })) (λ r. inr (record { place = r .place; going = r .going; there = r .there; fit = r .fit })) (g .request);
+    })
 
 -- ---- a handle that is not refused
 
@@ -84,45 +96,54 @@ module _ (m : DpMaster) (h : PeripheralHandle) where
   pub handle-below : handleRefusal h (m .occupied) ≡ 0 → h .slot < slots
   handle-below z = ltb-true (h .slot) slots (and-left _ (getD (m .occupied) (h .slot) false) (is-there (isOccupied (m .occupied) (h .slot)) z))
 
-  index-is : handleRefusal h (m .occupied) ≡ 0 → indexOf (h .slot) ≡ h .slot
+  pub handle-there : handleRefusal h (m .occupied) ≡ 0 → occupied m (h .slot)
+  handle-there z = and-right (ltb (h .slot) slots) (getD (m .occupied) (h .slot) false) (is-there (isOccupied (m .occupied) (h .slot)) z)
+
+  pub index-is : handleRefusal h (m .occupied) ≡ 0 → indexOf (h .slot) ≡ h .slot
   index-is z = rw (lt-ltb (h .slot) slots (handle-below z)) refl
 
 -- ---- a wish for a diagnosis
 
-wish-changed : (m : DpMaster) (h : PeripheralHandle) → Valid m → h .slot < slots
-    → Valid (balancesAre (set (m .peripherals) (h .slot) (stationIs (dueIs true (getD (m .peripherals) (h .slot) blank .station)) (getD (m .peripherals) (h .slot) blank))) m)
-wish-changed m h v b =
-    valid-set m v (h .slot) (stationIs (dueIs true (getD (m .peripherals) (h .slot) blank .station)) (getD (m .peripherals) (h .slot) blank)) (m .state) b refl refl
-    (λ o. sound-due (v .sound (h .slot) o) true) (λ o. v .address (h .slot) o) (v .place) (v .opened) (v .times)
+wish-changed : (m : DpMaster) (k : ℕ) → Valid m → occupied m k
+    → let p = getD (m .peripherals) k blank in Valid (balancesAre (set (m .peripherals) k (stationIs (dueIs true (p .station)) p)) m)
+wish-changed m k v o =
+    let ps = m .peripherals in
+    let p = getD ps k blank in
+    let t = m .state .«open_slot» in
+    let q : Peripheral = stationIs (dueIs true (p .station)) p in
+    valid-set m v k q (m .state) (next-station (m .parameters) (getD (m .occupied) k false) p (dueIs true (p .station)) o (λ a. a) (λ g. sound-due g true))
+    (standing-kept m (m .used) (m .occupied) (set ps k q) (v .standing)
+    (λ r f. (
+      r,
+      by-test (eqb t k)
+          (λ e. let w : t ≡ k = eqb-true t k e in rw (w, getD-set-same ps k q blank (omega (arith, v .table, marked-below m v k o))) (fits-due (m .state .«open_kind») (p .station .«diag_needed») (stateOf (p .station .state)) (rw w at f)))
+          (λ e. rw (getD-set-other ps k t q blank (eqb-false t k e)) f),
+    )))
 
 pub wish-valid : (m : DpMaster) (h : PeripheralHandle) → Valid m → Valid (wishDone m h .master)
 unfolding wishDone
 wish-valid m h v =
     by-test (eqb (handleRefusal h (m .occupied)) 0)
-    (λ e. let z = eqb-true (handleRefusal h (m .occupied)) 0 e in rw (e, index-is m h z) (wish-changed m h v (handle-below m h z)))
+    (λ e. let z = eqb-true (handleRefusal h (m .occupied)) 0 e in rw (e, index-is m h z) (wish-changed m (h .slot) v (handle-there m h z)))
     (λ e. rw e v)
 
 -- ---- a reset
 
-closed-valid : (m : DpMaster) → Valid m → (slot : ℕ) → (b : Bool)
-    → ((pick b (placed (m .state .slot) (m .state .completed) 0 0 (m .state)) (m .state)) .«open_kind» ≡ 0) ⊎ (occupied m ((pick b (placed (m .state .slot) (m .state .completed) 0 0 (m .state)) (m .state)) .«open_slot»))
-closed-valid m v slot true = inl refl
-closed-valid m v slot false = v .opened
+-- b: the open request is that slot's, and is closed; otherwise it is another's, and stays
+reset-standing : (m : DpMaster) (k : ℕ) (q : Peripheral) (b : Bool) → eqb (m .state .«open_slot») k ≡ b → Standing m
+    → let s = m .state in Standing (stateIs (pick b (placed (s .slot) (s .completed) 0 0 s) s) (balancesAre (set (m .peripherals) k q) m))
+reset-standing m k q true e g = record { operating = g .operating; place = g .place; times = g .times; request = inl (record { slot = refl; kind = refl }) }
+reset-standing m k q false e g =
+    let t = m .state .«open_slot» in
+    standing-kept m (m .used) (m .occupied) (set (m .peripherals) k q) g (λ o f. (o, rw (getD-set-other (m .peripherals) k t q blank (eqb-false t k e)) f))
 
-closed-place : (s : DpMasterState) (b : Bool) → pick b (placed (s .slot) (s .completed) 0 0 s) s .slot ≡ s .slot
-closed-place s true = refl
-closed-place s false = refl
-
-closed-times : (s : DpMasterState) (b : Bool) → s .«last_control» ≤ s .«last_turn» → pick b (placed (s .slot) (s .completed) 0 0 s) s .«last_control» ≤ pick b (placed (s .slot) (s .completed) 0 0 s) s .«last_turn»
-closed-times s true h = h
-closed-times s false h = h
-
-reset-changed : (m : DpMaster) (slot address : ℕ) → Valid m → slot < slots → addressRefusal (m .parameters) address ≡ 0
-    → Valid (stateIs (closedFor slot (m .state)) (balancesAre (set (m .peripherals) slot (resetOf (getD (m .peripherals) slot blank) address)) m))
-reset-changed m slot address v b a =
-    valid-set m v slot (resetOf (getD (m .peripherals) slot blank) address) (closedFor slot (m .state)) b refl refl
-    (λ o. sound-new address (m .parameters .«max_retry_limit») (getD (m .peripherals) slot blank .ranges .«diag_room»)) (λ o. a)
-    (rw (closed-place (m .state) (eqb (m .state .«open_slot») slot)) (v .place)) (closed-valid m v slot (eqb (m .state .«open_slot») slot)) (closed-times (m .state) (eqb (m .state .«open_slot») slot) (v .times))
+reset-changed : (m : DpMaster) (k address : ℕ) → Valid m → occupied m k → addressRefusal (m .parameters) address ≡ 0
+    → Valid (stateIs (closedFor k (m .state)) (balancesAre (set (m .peripherals) k (resetOf (getD (m .peripherals) k blank) address)) m))
+reset-changed m k address v o a =
+    let p = getD (m .peripherals) k blank in
+    valid-set m v k (resetOf p address) (closedFor k (m .state))
+    (next-station (m .parameters) (getD (m .occupied) k false) p (newOf address) o (λ b. a) (λ g. sound-new address (m .parameters .«max_retry_limit») (p .ranges .«diag_room»)))
+    (reset-standing m k (resetOf p address) (eqb (m .state .«open_slot») k) refl (v .standing))
 
 pub reset-valid : (m : DpMaster) (h : PeripheralHandle) (address : ℕ) → Valid m → Valid (resetDone m h address .master)
 unfolding resetDone
@@ -131,5 +152,5 @@ reset-valid m h address v =
     (λ e.
     let n = eqb-true (resetRefusal (m .parameters) (m .occupied) h address) 0 e in
     let z = or-first (handleRefusal h (m .occupied)) (addressRefusal (m .parameters) address) n in
-    rw (e, index-is m h z) (reset-changed m (h .slot) address v (handle-below m h z) (or-then (handleRefusal h (m .occupied)) (addressRefusal (m .parameters) address) n)))
+    rw (e, index-is m h z) (reset-changed m (h .slot) address v (handle-there m h z) (or-then (handleRefusal h (m .occupied)) (addressRefusal (m .parameters) address) n)))
     (λ e. rw e v)

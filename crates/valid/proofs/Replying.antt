@@ -1,35 +1,35 @@
 -- A reply keeps a unit valid.
 -- The idea: an accepted reply has its request open at an occupied slot, and puts back a balance with the same ranges.
-use mathlib.Core.Path.{_≡_, refl, sym, ap, _∙_, subst}
-use mathlib.Core.Bool.{Bool, true, false, not, _&&_, false≢true}
-use mathlib.Core.Logic.{_⊎_, inl, inr, ⊎-elim}
+use mathlib.Core.Path.{_≡_, refl, sym, _∙_, subst}
+use mathlib.Core.Bool.{true, false, not}
+use mathlib.Core.Logic.{inl}
 use mathlib.Core.List.{List}
-use Prim.Native.Nat.{ℕ, _+_, _≤_, _<_}
+use Prim.Native.Nat.{ℕ, _≤_, _<_}
 use native.Mathlib.Omega.{arith}
 use lib.ListN.{length, getD, set, drop}
-use lib.Dec.{eqb, ltb, leb}
-use borrow.Author.Tests.{eqb-true, eqb-false, eq-eqb, ltb-true, ltb-false, lt-ltb}
-use Rattle.parts.specs.Parts.{pick, roomFor}
+use lib.Dec.{eqb, ltb}
+use borrow.Author.Tests.{eqb-true, ltb-true, lt-ltb, not-true}
+use Rattle.parts.specs.Parts.{roomFor}
 use Rattle.parts.proofs.Laws.{by-test, room-new}
 use Rattle.fdl.specs.Reply.{usableReply}
 use Rattle.fdl.specs.declared.telegram.Telegram.{Telegram}
 use Rattle.telegrams.specs.Diagnosis.{taken, diagnosisOf, extended}
+use Rattle.station.specs.Record.{tookOf}
 use Rattle.peripheral.specs.declared.record.Peripheral.{Peripheral}
-use Rattle.peripheral.specs.Record.{blank, stationIs}
+use Rattle.peripheral.specs.Record.{blank}
 use Rattle.peripheral.specs.Reply.{storedLength, stationTook, isImage, withHeard, hearsOf}
 use Rattle.peripheral_set.specs.Marks.{slots, nextAfter}
-use Rattle.cycle.specs.declared.state.DpMasterState.{DpMasterState}
 use Rattle.cycle.specs.Seen.{indexOf}
 use Rattle.cycle.specs.State.{answered}
-use Rattle.cycle.specs.Refusal.{unless, replyRefusal, addressRefusal}
+use Rattle.cycle.specs.Refusal.{unless, replyRefusal}
 use Rattle.cycle.proofs.Laws.{passed, after}
 use Rattle.master.specs.declared.unit.DpMaster.{DpMaster}
 use Rattle.master.specs.declared.reply.Answered.{Answered}
-use Rattle.master.specs.Unit.{stateIs, balancesAre, balanceAt}
-use Rattle.master.specs.Reply.{openBalance, replyAt, nextSlot, unitReplied, Received}
-use Rattle.valid.specs.Valid.{Sound, Valid, occupied}
-use Rattle.valid.proofs.Stations.{sound-took, sound-heard}
-use Rattle.valid.proofs.Balances.{valid-set, sound-by}
+use Rattle.master.specs.Unit.{stateIs, balancesAre}
+use Rattle.master.specs.Reply.{openBalance, replyAt, unitReplied, Received}
+use Rattle.valid.specs.Valid.{Sound, Standing, Valid, occupied}
+use Rattle.valid.proofs.Stations.{sound-took, sound-steady, address-steady, heard-keeps}
+use Rattle.valid.proofs.Balances.{next-station, valid-set, open-there}
 
 -- what is stored fits its room
 stored-fits : (p : Peripheral) (payload diags : List ℕ) → p .station .«diag_len» ≤ p .ranges .«diag_room» → storedLength p payload diags ≤ p .ranges .«diag_room»
@@ -41,15 +41,16 @@ stored-fits p payload diags h =
     (λ f. rw (e, f) (room-new (p .ranges .diag) (p .ranges .«diag_room») (drop 6 payload) diags f)) (λ f. rw (e, f) h))
     (λ e. rw e h)
 
--- the place after an accepted reply
-next-place : (next : ℕ) (s : DpMasterState) → answered next s .slot < slots
-next-place next s = by-test (ltb next slots) (λ e. rw e (ltb-true next slots e)) (λ e. rw e (omega arith))
+-- the state after an accepted reply
+next-standing : (m : DpMaster) (next : ℕ) (ps : List Peripheral) → Standing m → Standing (stateIs (answered next (m .state)) (balancesAre ps m))
+next-standing m next ps g =
+    by-test (ltb next slots)
+    (λ e. rw e (record { operating = g .operating; place = ltb-true next slots e; times = g .times; request = inl (record { slot = refl; kind = refl }) }))
+    (λ e. rw e (record { operating = g .operating; place = omega arith; times = g .times; request = inl (record { slot = refl; kind = refl }) }))
 
-next-closed : (next : ℕ) (s : DpMasterState) → answered next s .«open_kind» ≡ 0
-next-closed next s = by-test (ltb next slots) (λ e. rw e refl) (λ e. rw e refl)
-
-next-times : (next : ℕ) (s : DpMasterState) → s .«last_control» ≤ s .«last_turn» → answered next s .«last_control» ≤ answered next s .«last_turn»
-next-times next s h = by-test (ltb next slots) (λ e. rw e h) (λ e. rw e h)
+taken-held : (payload : List ℕ) → diagnosisOf payload .held ≡ true
+unfolding diagnosisOf
+taken-held payload = refl
 
 two : _≡_ {A = ℕ} 2 0 → ⊥
 two e = omega arith
@@ -58,18 +59,21 @@ nine : _≡_ {A = ℕ} 9 0 → ⊥
 nine e = omega arith
 
 module _ (m : DpMaster) (t : Telegram) (payload inputs diags : List ℕ) (v : Valid m) where
-  put-back : (k next : ℕ) → k < slots → occupied m k
+  put-back : (k next : ℕ) → occupied m k
       → Valid (stateIs (answered next (m .state)) (balancesAre (set (m .peripherals) k (withHeard (getD (m .peripherals) k blank) (hearsOf t (getD (m .peripherals) k blank) payload inputs diags) .peripheral)) m))
-  unfolding hearsOf stationTook
-  put-back k next b o =
+  unfolding hearsOf stationTook tookOf
+  put-back k next o =
       let p = getD (m .peripherals) k blank in
-      let g = v .sound k o in
-      let gq = sound-took g (diagnosisOf payload) (storedLength p payload diags) (stored-fits p payload diags (g .stored)) in
-      let r = sound-heard gq g t (taken t (length payload)) (eqb (p .ranges .«input_len») 0) (isImage p payload inputs) in
-      valid-set m v k (withHeard p (hearsOf t p payload inputs diags) .peripheral) (answered next (m .state)) b refl refl
-      (λ o′. sound-by (m .parameters .«max_retry_limit») (p .station .address) (hearsOf t p payload inputs diags .station .address) (p .ranges .«diag_room») (p .ranges .«diag_room») (hearsOf t p payload inputs diags .station) (r .at) refl r)
-      (λ o′. subst (λ (x : ℕ). addressRefusal (m .parameters) x ≡ 0) (sym (r .at)) (v .address k o))
-      (next-place next (m .state)) (inl (next-closed next (m .state))) (next-times next (m .state) (v .times))
+      let limit = m .parameters .«max_retry_limit» in
+      let room = p .ranges .«diag_room» in
+      let took = taken t (length payload) in
+      let q = stationTook p payload diags in
+      let h = hearsOf t p payload inputs diags in
+      let same : h .station .address ≡ p .station .address = heard-keeps _ (address-steady (p .station .address)) q (p .station) refl refl t took (eqb (p .ranges .«input_len») 0) (isImage p payload inputs) in
+      valid-set m v k (withHeard p h .peripheral) (answered next (m .state))
+      (next-station (m .parameters) (getD (m .occupied) k false) p (h .station) o (λ a. rw same a)
+      (λ g. heard-keeps (Sound limit room) (sound-steady limit room) q (p .station) (sound-took g (diagnosisOf payload) (storedLength p payload diags) (taken-held payload) (stored-fits p payload diags (g .stored))) g t took (eqb (p .ranges .«input_len») 0) (isImage p payload inputs)))
+      (next-standing m next _ (v .standing))
 
   module _ (asked address : ℕ) (z : replyRefusal (m .parameters) (m .state) asked address t (length payload) (length inputs) (length diags) ≡ 0) where
     past-pools : unless (not (eqb (m .state .«open_kind») 0)) 9 (unless (ltb (m .state .«open_slot») slots) 9 (unless (eqb address asked) 9 (unless (usableReply t (length payload)) 10 0))) ≡ 0
@@ -83,14 +87,14 @@ module _ (m : DpMaster) (t : Telegram) (payload inputs diags : List ℕ) (v : Va
     below = ltb-true _ _ (passed (ltb (m .state .«open_slot») slots) 9 _ nine (after (not (eqb (m .state .«open_kind») 0)) 9 _ nine past-pools))
 
     there : occupied m (m .state .«open_slot»)
-    there = ⊎-elim (λ e. absurd (false≢true ((rw (eq-eqb (m .state .«open_kind») 0 e) at is-open)))) (λ o. o) (v .opened)
+    there = open-there m v (not-true _ is-open) .there
 
     index-is : indexOf (m .state .«open_slot») ≡ m .state .«open_slot»
     index-is = rw (lt-ltb (m .state .«open_slot») slots below) refl
 
     accepted : Valid (unitReplied m (replyAt t m payload inputs diags))
     unfolding replyAt
-    accepted = rw index-is (put-back (m .state .«open_slot») (nextAfter (m .occupied) (m .state .«open_slot»)) below there)
+    accepted = rw index-is (put-back (m .state .«open_slot») (nextAfter (m .occupied) (m .state .«open_slot»)) there)
 
 pub reply-valid : (m : DpMaster) (address : ℕ) (t : Telegram) (payload inputs diags outInputs outDiags : List ℕ) (r : Answered) → Received m address t payload inputs diags outInputs outDiags r → Valid m → Valid (r .master)
 reply-valid m address t payload inputs diags outInputs outDiags r c v =

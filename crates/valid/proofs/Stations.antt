@@ -1,37 +1,34 @@
--- Visits and replies keep a station sound.
--- The idea: each row of the tables puts a state by its number, the count to 0 or one more within the limit, and the bit one further.
-use mathlib.Core.Path.{_≡_, refl, sym, ap, _∙_, subst}
-use mathlib.Core.Bool.{Bool, true, false, not, _&&_, false≢true}
-use mathlib.Core.Logic.{_⊎_, inl, inr, ⊎-elim}
-use mathlib.Core.List.{List}
-use Prim.Native.Nat.{ℕ, _+_, _≤_, _<_}
+-- Visits and replies keep a station sound, and what a visit sends fits the station's state.
+-- The idea: each row of the tables puts a state by its number, the count to 0 or one more within the limit, and the bit one further;
+-- whatever these changes keep, a reply keeps.
+use mathlib.Core.Path.{_≡_, refl, sym, _∙_}
+use mathlib.Core.Bool.{Bool, true, false, _&&_, _||_, false≢true}
+use Prim.Native.Nat.{ℕ, _+_, _≤_}
 use native.Mathlib.Omega.{arith}
-use lib.ListN.{length, drop}
-use lib.Dec.{ltb, leb, eqb}
-use borrow.Author.Tests.{ltb-true, ltb-false, eqb-true, eqb-false, ne-eqb, eq-eqb}
-use Rattle.parts.specs.Parts.{pick, roomFor}
-use Rattle.parts.proofs.Laws.{by-test, room-new}
+use lib.Dec.{T, ltb, eqb, eqb→eq}
+use borrow.Author.Tests.{ltb-false, eqb-true, eqb-false}
+use Rattle.parts.proofs.Laws.{by-test}
 use Rattle.fdl.specs.Bits.{cycled, bitNumber, bitOf}
-use Rattle.fdl.specs.declared.telegram.FrameCountBit.{FrameCountBit}
 use Rattle.fdl.specs.Reply.{statusOf}
 use Rattle.fdl.specs.declared.telegram.ResponseStatus.{ResponseStatus}
 use Rattle.fdl.specs.declared.telegram.ResponseStatus.the-variants.{Ok, SapNotEnabled, DataLow, DataHigh, Other, Unusable}
 use Rattle.fdl.specs.declared.telegram.Telegram.{Telegram}
 use Rattle.fdl.specs.declared.telegram.Telegram.the-variants.{ShortConfirmation, Data, Token, Request}
-use Rattle.telegrams.specs.Diagnosis.{flag, diagnosisOf, extended}
+use Rattle.telegrams.specs.declared.request.Request.the-variants.{Diagnosis, Data as DataRequest}
+use Rattle.telegrams.specs.Request.{kindNumber}
+use Rattle.telegrams.specs.Diagnosis.{flag}
 use Rattle.telegrams.specs.declared.diagnosis.DiagnosticsInfo.{DiagnosticsInfo}
 use Rattle.station.specs.declared.record.Station.{Station}
-use Rattle.station.specs.declared.reply.Heard.{Heard}
 use Rattle.station.specs.declared.state.PeripheralState.{PeripheralState}
 use Rattle.station.specs.declared.state.PeripheralState.the-variants.{Offline, WaitForParam, WaitForConfig, ValidateConfig, PreDataExchange, DataExchange}
 use Rattle.station.specs.declared.visit.Visited.{Visited}
 use Rattle.station.specs.declared.visit.Visited.the-variants.{Sent, Fell, Skipped}
 use Rattle.station.specs.State.{numberOf, stateOf}
 use Rattle.station.specs.Record.{newOf, at, counting, cycling, dueIs, oneMore, tookOf}
-use Rattle.station.specs.Visit.{wishOf, visitedOf}
+use Rattle.station.specs.Visit.{wishIn, wishOf, visitedOf}
 use Rattle.station.specs.Reply.{foundOf, acknowledgedOf, isShort, byFlags, validatedOf, diagnosedOf, exchangedOf, statusReply, dataReply, exchangeOf, heardIn, heardOf}
 use Rattle.station.proofs.Visits.{falls, wish-falls}
-use Rattle.valid.specs.Valid.{Sound}
+use Rattle.valid.specs.Valid.{Sound, fits}
 
 -- ---- the numbers
 
@@ -56,109 +53,170 @@ bit-cycles n l h =
 
 -- ---- what each change keeps
 
-module _ {address limit room : ℕ} {s : Station} (g : Sound address limit room s) where
-  pub sound-at : (x : PeripheralState) → Sound address limit room (at x s)
-  sound-at x = record { at = g .at; state = state-number x; bitLow = g .bitLow; bitHigh = g .bitHigh; count = g .count; stored = g .stored }
+module _ {limit room : ℕ} {s : Station} (g : Sound limit room s) where
+  pub sound-at : (x : PeripheralState) → Sound limit room (at x s)
+  sound-at x = record { state = state-number x; bitLow = g .bitLow; bitHigh = g .bitHigh; count = g .count; stored = g .stored; unheld = g .unheld }
 
-  pub sound-zero : Sound address limit room (counting 0 s)
-  sound-zero = record { at = g .at; state = g .state; bitLow = g .bitLow; bitHigh = g .bitHigh; count = omega arith; stored = g .stored }
+  sound-count : (n : ℕ) → n ≤ limit + 1 → Sound limit room (counting n s)
+  sound-count n h = record { state = g .state; bitLow = g .bitLow; bitHigh = g .bitHigh; count = h; stored = g .stored; unheld = g .unheld }
 
-  pub sound-cycling : Sound address limit room (cycling s)
+  pub sound-zero : Sound limit room (counting 0 s)
+  sound-zero = sound-count 0 (omega arith)
+
+  pub sound-cycling : Sound limit room (cycling s)
   sound-cycling =
       let b = bit-cycles (s .fcb) (g .bitLow) (g .bitHigh) in
-      record { at = g .at; state = g .state; bitLow = b .0; bitHigh = b .1; count = g .count; stored = g .stored }
+      record { state = g .state; bitLow = b .0; bitHigh = b .1; count = g .count; stored = g .stored; unheld = g .unheld }
 
-  pub sound-due : (b : Bool) → Sound address limit room (dueIs b s)
-  sound-due b = record { at = g .at; state = g .state; bitLow = g .bitLow; bitHigh = g .bitHigh; count = g .count; stored = g .stored }
+  pub sound-due : (b : Bool) → Sound limit room (dueIs b s)
+  sound-due b = record { state = g .state; bitLow = g .bitLow; bitHigh = g .bitHigh; count = g .count; stored = g .stored; unheld = g .unheld }
 
-  pub sound-took : (d : DiagnosticsInfo) (n : ℕ) → n ≤ room → Sound address limit room (tookOf d n s)
+  pub sound-took : (d : DiagnosticsInfo) (n : ℕ) → d .held ≡ true → n ≤ room → Sound limit room (tookOf d n s)
   unfolding tookOf
-  sound-took d n h =
+  sound-took d n e h =
       let b = bit-cycles (s .fcb) (g .bitLow) (g .bitHigh) in
-      record { at = g .at; state = g .state; bitLow = b .0; bitHigh = b .1; count = g .count; stored = h }
+      record { state = g .state; bitLow = b .0; bitHigh = b .1; count = g .count; stored = h; unheld = λ f. absurd (false≢true (sym f ∙ e)) }
 
 -- as newly added
-pub sound-new : (address limit room : ℕ) → Sound address limit room (newOf address)
-sound-new address limit room = record { at = refl; state = omega arith; bitLow = omega arith; bitHigh = omega arith; count = omega arith; stored = omega arith }
+pub sound-new : (address limit room : ℕ) → Sound limit room (newOf address)
+sound-new address limit room = record { state = omega arith; bitLow = omega arith; bitHigh = omega arith; count = omega arith; stored = omega arith; unheld = λ e. refl }
 
 -- ---- a visit
 
-module _ {address limit room : ℕ} {s : Station} (g : Sound address limit room s) where
+module _ {limit room : ℕ} {s : Station} (g : Sound limit room s) where
   one-more-fits : s .«retry_count» ≤ limit → oneMore (s .«retry_count») ≤ limit + 1
   one-more-fits h = by-test (ltb (s .«retry_count») 255) (λ e. rw e (omega arith)) (λ e. rw e (omega (arith, ltb-false (s .«retry_count») 255 e)))
 
-  sound-sent : s .«retry_count» ≤ limit → Sound address limit room (counting (oneMore (s .«retry_count»)) s)
-  sound-sent h = record { at = g .at; state = g .state; bitLow = g .bitLow; bitHigh = g .bitHigh; count = one-more-fits h; stored = g .stored }
-
-  sound-visited : (w : Visited) → (falls w ≡ false → s .«retry_count» ≤ limit) → Sound address limit room (visitedOf w s)
-  sound-visited (Sent k) h = sound-sent (h refl)
+  sound-visited : (w : Visited) → (falls w ≡ false → s .«retry_count» ≤ limit) → Sound limit room (visitedOf w s)
+  sound-visited (Sent k) h = sound-count g (oneMore (s .«retry_count»)) (one-more-fits (h refl))
   sound-visited Fell h = sound-at (sound-zero g) Offline
   sound-visited Skipped h = sound-zero g
 
-  pub sound-visit : (user config : Bool) → Sound address limit room (visitedOf (wishOf limit user config s) s)
+  pub sound-visit : (user config : Bool) → Sound limit room (visitedOf (wishOf limit user config s) s)
   sound-visit user config = sound-visited (wishOf limit user config s) (λ f. ltb-false limit (s .«retry_count») (sym (wish-falls user config s limit) ∙ f))
+
+-- ---- the request of a visit
+
+-- what is sent fits the state
+abbrev pub sendsFit : PeripheralState → Bool → Visited → Bool
+sendsFit x due (Sent k) = fits x due (kindNumber k)
+sendsFit x due Fell = true
+sendsFit x due Skipped = true
+
+module _ (user config : Bool) (s : Station) where
+  wish-fits-in : (x : PeripheralState) → T (sendsFit x (s .«diag_needed») (wishIn x user config s))
+  wish-fits-in Offline = by-test (eqb (s .«retry_count») 0) (λ e. rw e tt) (λ e. rw e tt)
+  wish-fits-in WaitForParam = by-test user (λ e. rw e tt) (λ e. rw e tt)
+  wish-fits-in WaitForConfig = by-test config (λ e. rw e tt) (λ e. rw e tt)
+  wish-fits-in ValidateConfig = tt
+  wish-fits-in PreDataExchange = by-test (s .«diag_needed») (λ e. rw e tt) (λ e. rw e tt)
+  wish-fits-in DataExchange = by-test (s .«diag_needed») (λ e. rw e tt) (λ e. rw e tt)
+
+  pub wish-fits : (limit : ℕ) → T (sendsFit (stateOf (s .state)) (s .«diag_needed») (wishOf limit user config s))
+  unfolding wishOf
+  wish-fits limit = by-test (ltb limit (s .«retry_count»)) (λ e. rw e tt) (λ e. rw e (wish-fits-in (stateOf (s .state))))
+
+-- it still fits when a wish comes
+module _ (k : ℕ) (due : Bool) where
+  or-due : (a b : Bool) → T (a || (b && due)) → T (a || (b && true))
+  or-due true b h = tt
+  or-due false true h = tt
+  or-due false false h = absurd h
+
+  pub fits-due : (x : PeripheralState) → T (fits x due k) → T (fits x true k)
+  fits-due Offline h = h
+  fits-due WaitForParam h = h
+  fits-due WaitForConfig h = h
+  fits-due ValidateConfig h = h
+  fits-due PreDataExchange h = or-due (eqb k (kindNumber DataRequest)) (eqb k (kindNumber Diagnosis)) h
+  fits-due DataExchange h = or-due (eqb k (kindNumber DataRequest)) (eqb k (kindNumber Diagnosis)) h
+
+  -- its number is one of 1 to 4
+  or-kind : T (eqb k 4 || (eqb k 1 && due)) → (1 ≤ k) × (k ≤ 4)
+  or-kind h =
+      by-test (eqb k 4) (λ e. omega (arith, eqb-true k 4 e))
+      (λ e. by-test (eqb k 1) (λ f. omega (arith, eqb-true k 1 f)) (λ f. absurd (rw (e, f) at h)))
+
+  pub kind-among : (x : PeripheralState) → T (fits x due k) → (1 ≤ k) × (k ≤ 4)
+  kind-among Offline h = omega (arith, eqb→eq k 1 h)
+  kind-among WaitForParam h = omega (arith, eqb→eq k 2 h)
+  kind-among WaitForConfig h = omega (arith, eqb→eq k 3 h)
+  kind-among ValidateConfig h = omega (arith, eqb→eq k 1 h)
+  kind-among PreDataExchange h = or-kind h
+  kind-among DataExchange h = or-kind h
 
 -- ---- a reply
 
-abbrev Good : ℕ → ℕ → ℕ → Heard → Type 0
-Good address limit room h = Sound address limit room (h .station)
+-- what each change that a reply can make keeps
+pub record Steady (P : Station → Type 0) : Type 0 where
+  pub at-ok : (x : PeripheralState) (s : Station) → P s → P (at x s)
+  pub zero-ok : (s : Station) → P s → P (counting 0 s)
+  pub cycling-ok : (s : Station) → P s → P (cycling s)
+  pub due-ok : (b : Bool) (s : Station) → P s → P (dueIs b s)
 
-module _ {address limit room : ℕ} where
-  flags-sound : (f : ℕ) {s : Station} → Sound address limit room s → Good address limit room (byFlags f s)
+pub sound-steady : (limit room : ℕ) → Steady (Sound limit room)
+sound-steady limit room = record { at-ok = λ x s g. sound-at g x; zero-ok = λ s g. sound-zero g; cycling-ok = λ s g. sound-cycling g; due-ok = λ b s g. sound-due g b }
+
+pub address-steady : (a : ℕ) → Steady (λ s. s .address ≡ a)
+address-steady a = record { at-ok = λ x s g. g; zero-ok = λ s g. g; cycling-ok = λ s g. g; due-ok = λ b s g. g }
+
+-- is kept by the reply; q is the station with the diagnosis taken
+module _ (P : Station → Type 0) (c : Steady P) where
+  flags-keep : (f : ℕ) (s : Station) → P s → P (byFlags f s .station)
   unfolding byFlags
-  flags-sound f g =
-      by-test (flag 0x0040 f) (λ a. rw a (sound-at g Offline))
-      (λ a. by-test (flag 0x0004 f) (λ b. rw (a, b) (sound-at g Offline))
-      (λ b. by-test (flag 0x0100 f) (λ c. rw (a, b, c) (sound-at g WaitForParam))
-      (λ c. by-test (flag 0x0002 f) (λ d. rw (a, b, c, d) g) (λ d. rw (a, b, c, d) (sound-at g PreDataExchange)))))
+  flags-keep f s g =
+      by-test (flag 0x0040 f) (λ a. rw a (c .at-ok Offline s g))
+      (λ a. by-test (flag 0x0004 f) (λ b. rw (a, b) (c .at-ok Offline s g))
+      (λ b. by-test (flag 0x0100 f) (λ d. rw (a, b, d) (c .at-ok WaitForParam s g))
+      (λ d. by-test (flag 0x0002 f) (λ e. rw (a, b, d, e) g) (λ e. rw (a, b, d, e) (c .at-ok PreDataExchange s g)))))
 
-  exchanged-sound : (b : Bool) {s : Station} → Sound address limit room s → Good address limit room (exchangedOf b s)
-  exchanged-sound true g = sound-at g DataExchange
-  exchanged-sound false g = g
+  exchanged-keeps : (b : Bool) (s : Station) → P s → P (exchangedOf b s .station)
+  exchanged-keeps true s g = c .at-ok DataExchange s g
+  exchanged-keeps false s g = g
 
-  status-sound : (x : ResponseStatus) (fits : Bool) {s : Station} → Sound address limit room s → Good address limit room (statusReply x fits s)
-  status-sound Ok fits g = exchanged-sound fits g
-  status-sound SapNotEnabled fits g = sound-at g ValidateConfig
-  status-sound DataLow fits g = exchanged-sound fits g
-  status-sound DataHigh fits g = exchanged-sound fits (sound-due g true)
-  status-sound Other fits g = g
-  status-sound Unusable fits g = g
+  status-keeps : (x : ResponseStatus) (fits : Bool) (s : Station) → P s → P (statusReply x fits s .station)
+  status-keeps Ok fits s g = exchanged-keeps fits s g
+  status-keeps SapNotEnabled fits s g = c .at-ok ValidateConfig s g
+  status-keeps DataLow fits s g = exchanged-keeps fits s g
+  status-keeps DataHigh fits s g = exchanged-keeps fits (dueIs true s) (c .due-ok true s g)
+  status-keeps Other fits s g = g
+  status-keeps Unusable fits s g = g
 
-  data-sound : (t : Telegram) (empty fits : Bool) {s : Station} → Sound address limit room s → Good address limit room (dataReply t empty fits s)
-  data-sound ShortConfirmation empty fits g = exchanged-sound empty g
-  data-sound (Data dsap ssap status) empty fits g = status-sound (statusOf status) fits g
-  data-sound Token empty fits g = g
-  data-sound Request empty fits g = g
+  data-keeps : (t : Telegram) (empty fits : Bool) (s : Station) → P s → P (dataReply t empty fits s .station)
+  data-keeps ShortConfirmation empty fits s g = exchanged-keeps empty s g
+  data-keeps (Data dsap ssap status) empty fits s g = status-keeps (statusOf status) fits s g
+  data-keeps Token empty fits s g = g
+  data-keeps Request empty fits s g = g
 
-  module _ {q s : Station} (gq : Sound address limit room q) (g : Sound address limit room s) where
-    found-sound : (took : Bool) → Good address limit room (foundOf took q s)
-    found-sound true = sound-at (sound-zero gq) WaitForParam
-    found-sound false = g
+  module _ (q s : Station) (gq : P q) (g : P s) where
+    found-keeps : (took : Bool) → P (foundOf took q s .station)
+    found-keeps true = c .at-ok WaitForParam (counting 0 q) (c .zero-ok q gq)
+    found-keeps false = g
 
-    validated-sound : (took : Bool) → Good address limit room (validatedOf took q s)
-    validated-sound true = flags-sound (q .diag .flags) (sound-zero gq)
-    validated-sound false = sound-zero g
+    validated-keeps : (took : Bool) → P (validatedOf took q s .station)
+    validated-keeps true = flags-keep (q .diag .flags) (counting 0 q) (c .zero-ok q gq)
+    validated-keeps false = c .zero-ok s g
 
-    diagnosed-sound : (took : Bool) → Good address limit room (diagnosedOf took q s)
-    diagnosed-sound true = sound-zero (sound-due gq false)
-    diagnosed-sound false = g
+    diagnosed-keeps : (took : Bool) → P (diagnosedOf took q s .station)
+    diagnosed-keeps true = c .zero-ok (dueIs false q) (c .due-ok false q gq)
+    diagnosed-keeps false = g
 
-    exchange-sound : (due : Bool) (t : Telegram) (took empty fits : Bool) → Good address limit room (exchangeOf due t took q empty fits s)
-    exchange-sound true t took empty fits = diagnosed-sound took
-    exchange-sound false t took empty fits = data-sound t empty fits (sound-zero (sound-cycling g))
+    exchange-keeps : (due : Bool) (t : Telegram) (took empty fits : Bool) → P (exchangeOf due t took q empty fits s .station)
+    exchange-keeps true t took empty fits = diagnosed-keeps took
+    exchange-keeps false t took empty fits = data-keeps t empty fits (counting 0 (cycling s)) (c .zero-ok (cycling s) (c .cycling-ok s g))
 
-    acknowledged-sound : (b : Bool) (x : PeripheralState) → Good address limit room (acknowledgedOf b x s)
-    acknowledged-sound true x = sound-at (sound-zero (sound-cycling g)) x
-    acknowledged-sound false x = g
+    acknowledged-keeps : (b : Bool) (x : PeripheralState) → P (acknowledgedOf b x s .station)
+    acknowledged-keeps true x = c .at-ok x (counting 0 (cycling s)) (c .zero-ok (cycling s) (c .cycling-ok s g))
+    acknowledged-keeps false x = g
 
-    heard-sound : (x : PeripheralState) (t : Telegram) (took empty fits : Bool) → Good address limit room (heardIn x t took q empty fits s)
-    heard-sound Offline t took empty fits = found-sound took
-    heard-sound WaitForParam t took empty fits = acknowledged-sound (isShort t) WaitForConfig
-    heard-sound WaitForConfig t took empty fits = acknowledged-sound (isShort t) ValidateConfig
-    heard-sound ValidateConfig t took empty fits = validated-sound took
-    heard-sound PreDataExchange t took empty fits = exchange-sound (s .«diag_needed») t took empty fits
-    heard-sound DataExchange t took empty fits = exchange-sound (s .«diag_needed») t took empty fits
+    keeps-in : (x : PeripheralState) (t : Telegram) (took empty fits : Bool) → P (heardIn x t took q empty fits s .station)
+    keeps-in Offline t took empty fits = found-keeps took
+    keeps-in WaitForParam t took empty fits = acknowledged-keeps (isShort t) WaitForConfig
+    keeps-in WaitForConfig t took empty fits = acknowledged-keeps (isShort t) ValidateConfig
+    keeps-in ValidateConfig t took empty fits = validated-keeps took
+    keeps-in PreDataExchange t took empty fits = exchange-keeps (s .«diag_needed») t took empty fits
+    keeps-in DataExchange t took empty fits = exchange-keeps (s .«diag_needed») t took empty fits
 
-    pub sound-heard : (t : Telegram) (took empty fits : Bool) → Good address limit room (heardOf t took q empty fits s)
+    pub heard-keeps : (t : Telegram) (took empty fits : Bool) → P (heardOf t took q empty fits s .station)
     unfolding heardOf
-    sound-heard t took empty fits = heard-sound (stateOf (s .state)) t took empty fits
+    heard-keeps t took empty fits = keeps-in (stateOf (s .state)) t took empty fits

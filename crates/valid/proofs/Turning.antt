@@ -1,23 +1,26 @@
 -- A turn keeps a unit valid.
--- The idea: each visit leaves its balance sound with the same ranges, and what is sent goes to an occupied slot.
+-- The idea: each visit leaves its balance sound with the same ranges, and what is sent goes to an occupied slot and fits its balance.
 use mathlib.Core.Path.{_≡_, refl, sym, ap, _∙_, subst}
-use mathlib.Core.Bool.{Bool, true, false, _&&_, false≢true}
-use mathlib.Core.Logic.{_⊎_, inl, inr, ⊎-elim}
+use mathlib.Core.Bool.{Bool, true, false, false≢true}
+use mathlib.Core.Logic.{inl, inr}
 use mathlib.Core.List.{List}
 use Prim.Native.Nat.{ℕ, zero, suc, _+_, _-_, _≤_, _<_}
 use native.Mathlib.Omega.{arith}
 use lib.ListN.{length, getD, set, length-set}
-use lib.Seq.{getD-set-same, getD-set-other, set-out}
-use lib.Dec.{eqb, ltb, leb}
-use borrow.Author.Tests.{eqb-true, eqb-false, ltb-true, ltb-false, leb-true}
-use Rattle.parts.specs.Parts.{pick}
-use Rattle.parts.proofs.Laws.{by-test, and-left}
+use lib.Seq.{getD-set-same}
+use lib.Dec.{T, eqb, leb}
+use borrow.Author.Tests.{eqb-true, leb-true}
+use Rattle.parts.proofs.Laws.{by-test}
+use Rattle.fdl.specs.declared.parameters.Parameters.{Parameters}
+use Rattle.telegrams.specs.Request.{kindNumber}
 use Rattle.station.specs.declared.record.Station.{Station}
 use Rattle.station.specs.declared.visit.Visited.{Visited}
 use Rattle.station.specs.declared.visit.Visited.the-variants.{Sent as Sends, Fell, Skipped}
+use Rattle.station.specs.State.{stateOf}
+use Rattle.station.specs.Visit.{visitedOf}
 use Rattle.station.proofs.Visits.{visit-keeps}
 use Rattle.peripheral.specs.declared.record.Peripheral.{Peripheral}
-use Rattle.peripheral.specs.Record.{blank}
+use Rattle.peripheral.specs.Record.{blank, stationIs}
 use Rattle.peripheral.specs.Visit.{wishesOf, visitedBy}
 use Rattle.peripheral_set.specs.Marks.{slots}
 use Rattle.cycle.specs.declared.seen.Seen.{Seen}
@@ -25,117 +28,99 @@ use Rattle.cycle.specs.declared.seen.Sent.{Sent}
 use Rattle.cycle.specs.declared.seen.Sent.the-variants.{Nothing, To}
 use Rattle.cycle.specs.declared.state.Step.{Step}
 use Rattle.cycle.specs.declared.state.Step.the-variants.{Stop, Control, Back, Visits}
-use Rattle.cycle.specs.declared.state.DpMasterState.{DpMasterState}
 use Rattle.cycle.specs.Seen.{nothingSeen, seenBy, idle}
 use Rattle.cycle.specs.State.{afterTurn, startOf}
-use Rattle.cycle.specs.Refusal.{unless, turnRefusal}
+use Rattle.cycle.specs.Refusal.{turnRefusal}
 use Rattle.cycle.proofs.Laws.{passed, after}
 use Rattle.master.specs.declared.unit.DpMaster.{DpMaster}
 use Rattle.master.specs.declared.turn.Turn.{Turn}
 use Rattle.master.specs.Unit.{stateIs, balancesAre}
 use Rattle.master.specs.Turn.{Swept, sweepFrom, stepAt, sweptBy, unitTurned, Turned}
-use Rattle.valid.specs.Valid.{Sound, Valid, occupied}
-use Rattle.valid.proofs.Stations.{sound-visit}
-use Rattle.valid.proofs.Balances.{Next, next-same, next-next, GoneOn, valid-on, marked-below}
+use Rattle.master.proofs.Sweep.{sweep-skip, sweep-visit, sweep-stopped, sweep-none}
+use Rattle.valid.specs.Valid.{Fits, Standing, Valid}
+use Rattle.valid.proofs.Stations.{sound-visit, sendsFit, wish-fits}
+use Rattle.valid.proofs.Balances.{Next, next-same, next-next, next-station, GoneOn, on-set, valid-on, marked-in, marked-below}
 
--- ---- one visit
+-- ---- the visits
 
-visited-next : (limit : ℕ) (p : Peripheral) → Next limit p (visitedBy limit p)
-visited-next limit p =
-    record {
-      ranges = refl;
-      options = refl;
-      address = ap (λ (s : Station). s .address) (visit-keeps (wishesOf limit p) (p .station));
-      sound = λ g. sound-visit g (p .options .«has_user_parameters») (p .options .«has_config»);
-    }
+visited-next : (u : Parameters) (there : Bool) (p : Peripheral) → there ≡ true → Next u there p (visitedBy (u .«max_retry_limit») p)
+visited-next u there p o =
+    let w = wishesOf (u .«max_retry_limit») p in
+    let same : visitedOf w (p .station) .address ≡ p .station .address = ap (λ (s : Station). s .address) (visit-keeps w (p .station)) in
+    next-station u there p (visitedOf w (p .station)) o (λ a. rw same a) (λ g. sound-visit g (p .options .«has_user_parameters») (p .options .«has_config»))
 
-on-set : (limit : ℕ) (ps : List Peripheral) (k : ℕ) → GoneOn limit ps (set ps k (visitedBy limit (getD ps k blank)))
-on-set limit ps k i =
-    by-test (ltb k (length ps))
-    (λ l.
-    by-test (eqb i k)
-    (λ e. let w : i ≡ k = eqb-true i k e in subst (λ (j : ℕ). Next limit (getD ps j blank) (getD (set ps k (visitedBy limit (getD ps k blank))) j blank)) (sym w) (subst (Next limit (getD ps k blank)) (sym (getD-set-same ps k (visitedBy limit (getD ps k blank)) blank (ltb-true k (length ps) l))) (visited-next limit (getD ps k blank))))
-    (λ e. subst (Next limit (getD ps i blank)) (sym (getD-set-other ps k i (visitedBy limit (getD ps k blank)) blank (λ w. eqb-false i k e w))) (next-same limit (getD ps i blank))))
-    (λ l. subst (λ (x : List Peripheral). Next limit (getD ps i blank) (getD x i blank)) (sym (set-out ps k (visitedBy limit (getD ps k blank)) (ltb-false k (length ps) l))) (next-same limit (getD ps i blank)))
+-- what was sent went to an occupied slot, and fits its balance
+abbrev SentTo : List Bool → List Peripheral → Sent → Type 0
+SentTo marks ps Nothing = _≡_ {A = ℕ} 0 0
+SentTo marks ps (To slot k) = (getD marks slot false ≡ true) × Fits (getD ps slot blank .station) (kindNumber k)
 
--- ---- all visits
+module _ (marks : List Bool) where
+  idle-sent : (ps : List Peripheral) (sent : Sent) → idle sent ≡ true → SentTo marks ps sent
+  idle-sent ps Nothing e = refl
+  idle-sent ps (To slot k) e = absurd (false≢true e)
 
--- what was sent goes to an occupied slot
-abbrev SentTo : List Bool → Sent → Type 0
-SentTo marks Nothing = _≡_ {A = ℕ} 0 0
-SentTo marks (To slot k) = getD marks slot false ≡ true
+  visit-sent : (w : Visited) (i : ℕ) (seen : Seen) (ps : List Peripheral) → let p = getD ps i blank in
+      getD marks i false ≡ true → i < length ps → idle (seen .sent) ≡ true → T (sendsFit (stateOf (p .station .state)) (p .station .«diag_needed») w)
+      → SentTo marks (set ps i (stationIs (visitedOf w (p .station)) p)) (seenBy i w seen .sent)
+  visit-sent (Sends k) i seen ps o h e f = (o, rw (getD-set-same ps i (stationIs (visitedOf (Sends k) (getD ps i blank .station)) (getD ps i blank)) blank h) f)
+  visit-sent Fell i seen ps o h e f = idle-sent _ (seen .sent) e
+  visit-sent Skipped i seen ps o h e f = idle-sent _ (seen .sent) e
 
-module _ (limit : ℕ) (marks : List Bool) where
-  see-sent : (w : Visited) (i : ℕ) (seen : Seen) → getD marks i false ≡ true → SentTo marks (seen .sent) → SentTo marks (seenBy i w seen .sent)
-  see-sent (Sends k) i seen e h = e
-  see-sent Fell i seen e h = h
-  see-sent Skipped i seen e h = h
+-- what all visits leave
+record Went (u : Parameters) (marks : List Bool) (ps : List Peripheral) (w : Swept) : Type 0 where
+  on : GoneOn u marks ps (w .balances)
+  size : length (w .balances) ≡ length ps
+  to : SentTo marks (w .balances) (w .seen .sent)
 
-  step-sent : (b : Bool) (w : Visited) (i : ℕ) (seen : Seen) → (b ≡ true → getD marks i false ≡ true) → SentTo marks (seen .sent) → SentTo marks (pick b (seenBy i w seen) seen .sent)
-  step-sent true w i seen e h = see-sent w i seen (e refl) h
-  step-sent false w i seen e h = h
+module _ (u : Parameters) (marks : List Bool) where
+  stay : (seen : Seen) (ps : List Peripheral) → SentTo marks ps (seen .sent) → Went u marks ps (record { seen = seen; balances = ps })
+  stay seen ps h = record { on = λ j. next-same u (getD marks j false) (getD ps j blank); size = refl; to = h }
 
-  step-on : (b : Bool) (i : ℕ) (ps : List Peripheral) → GoneOn limit ps (pick b (set ps i (visitedBy limit (getD ps i blank))) ps)
-  step-on true i ps = on-set limit ps i
-  step-on false i ps = λ j. next-same limit (getD ps j blank)
-
-  step-length : (b : Bool) (i : ℕ) (ps : List Peripheral) → length (pick b (set ps i (visitedBy limit (getD ps i blank))) ps) ≡ length ps
-  step-length true i ps = length-set ps i (visitedBy limit (getD ps i blank))
-  step-length false i ps = refl
-
-  sweep-sent : (k i : ℕ) (seen : Seen) (ps : List Peripheral) → SentTo marks (seen .sent) → SentTo marks (sweepFrom k limit marks i seen ps .seen .sent)
-  unfolding sweepFrom
-  sweep-sent zero i seen ps h = h
-  sweep-sent (suc k) i seen ps h =
-      sweep-sent k (i + 1) _ _ (step-sent (getD marks i false && idle (seen .sent)) (wishesOf limit (getD ps i blank)) i seen (λ e. and-left (getD marks i false) (idle (seen .sent)) e) h)
-
-  sweep-on : (k i : ℕ) (seen : Seen) (ps : List Peripheral) → GoneOn limit ps (sweepFrom k limit marks i seen ps .balances)
-  unfolding sweepFrom
-  sweep-on zero i seen ps = λ j. next-same limit (getD ps j blank)
-  sweep-on (suc k) i seen ps = λ j.
-      next-next limit _ _ _ (step-on (getD marks i false && idle (seen .sent)) i ps j)
-      (sweep-on k (i + 1) (pick (getD marks i false && idle (seen .sent)) (seenBy i (wishesOf limit (getD ps i blank)) seen) seen) (pick (getD marks i false && idle (seen .sent)) (set ps i (visitedBy limit (getD ps i blank))) ps) j)
-
-  sweep-length : (k i : ℕ) (seen : Seen) (ps : List Peripheral) → length (sweepFrom k limit marks i seen ps .balances) ≡ length ps
-  unfolding sweepFrom
-  sweep-length zero i seen ps = refl
-  sweep-length (suc k) i seen ps =
-      sweep-length k (i + 1) (pick (getD marks i false && idle (seen .sent)) (seenBy i (wishesOf limit (getD ps i blank)) seen) seen) (pick (getD marks i false && idle (seen .sent)) (set ps i (visitedBy limit (getD ps i blank))) ps)
-      ∙ step-length (getD marks i false && idle (seen .sent)) i ps
+  sweep-went : (n i : ℕ) (seen : Seen) (ps : List Peripheral) → length ps ≡ length marks → SentTo marks ps (seen .sent) → Went u marks ps (sweepFrom n (u .«max_retry_limit») marks i seen ps)
+  sweep-went zero i seen ps l h = rw (sweep-none (u .«max_retry_limit») marks i seen ps) (stay seen ps h)
+  sweep-went (suc n) i seen ps l h =
+      let limit = u .«max_retry_limit» in
+      let p = getD ps i blank in
+      let w = wishesOf limit p in
+      let q = visitedBy limit p in
+      by-test (idle (seen .sent))
+      (λ f.
+      by-test (getD marks i false)
+      (λ e.
+      let r = sweep-went n (i + 1) (seenBy i w seen) (set ps i q) (simp length-set l)
+      (visit-sent marks w i seen ps e (omega (arith, l, marked-in marks i e)) f (wish-fits (p .options .«has_user_parameters») (p .options .«has_config») (p .station) limit)) in
+      rw (sweep-visit limit marks n i seen ps e f)
+      (record {
+        on = λ j. next-next u (getD marks j false) _ _ _ (on-set u marks ps i q (visited-next u (getD marks i false) p e) j) (r .on j);
+        size = r .size ∙ length-set ps i q;
+        to = r .to;
+      }))
+      (λ e. rw (sweep-skip limit marks n i seen ps e) (sweep-went n (i + 1) seen ps l h)))
+      (λ f. rw (sweep-stopped limit marks (suc n) i seen ps f) (stay seen ps h))
 
 -- ---- the state
 
-module _ (m : DpMaster) (v : Valid m) (time : ℕ) where
-  place-after : (step : Step) (sent : Sent) → SentTo (m .occupied) sent → afterTurn step sent time (m .state) .slot < slots
-  place-after Stop sent h = v .place
-  place-after Control sent h = v .place
-  place-after Back sent h = omega arith
-  place-after Visits Nothing h = omega arith
-  place-after Visits (To slot k) h = marked-below m v slot h
+module _ (m : DpMaster) (v : Valid m) (time : ℕ) (l : m .state .«last_turn» ≤ time) where
+  standing-after : (step : Step) (sent : Sent) (ps : List Peripheral) → SentTo (m .occupied) ps sent → Standing (stateIs (afterTurn step sent time (m .state)) (balancesAre ps m))
+  standing-after Stop sent ps h = record { operating = v .standing .operating; place = v .standing .place; times = omega (arith, v .standing .times); request = inl (record { slot = refl; kind = refl }) }
+  standing-after Control sent ps h = record { operating = v .standing .operating; place = v .standing .place; times = omega arith; request = inl (record { slot = refl; kind = refl }) }
+  standing-after Back sent ps h = record { operating = v .standing .operating; place = omega arith; times = omega (arith, v .standing .times); request = inl (record { slot = refl; kind = refl }) }
+  standing-after Visits Nothing ps h = record { operating = v .standing .operating; place = omega arith; times = omega (arith, v .standing .times); request = inl (record { slot = refl; kind = refl }) }
+  standing-after Visits (To slot k) ps h =
+      record {
+        operating = v .standing .operating;
+        place = marked-below m v slot (h .0);
+        times = omega (arith, v .standing .times);
+        request = inr (record { place = refl; going = refl; there = h .0; fit = h .1 });
+      }
 
-  open-after : (step : Step) (sent : Sent) → SentTo (m .occupied) sent → (afterTurn step sent time (m .state) .«open_kind» ≡ 0) ⊎ (occupied m (afterTurn step sent time (m .state) .«open_slot»))
-  open-after Stop sent h = inl refl
-  open-after Control sent h = inl refl
-  open-after Back sent h = inl refl
-  open-after Visits Nothing h = inl refl
-  open-after Visits (To slot k) h = inr h
-
-  times-after : (step : Step) (sent : Sent) → m .state .«last_turn» ≤ time → afterTurn step sent time (m .state) .«last_control» ≤ afterTurn step sent time (m .state) .«last_turn»
-  times-after Stop sent l = omega (arith, v .times)
-  times-after Control sent l = omega arith
-  times-after Back sent l = omega (arith, v .times)
-  times-after Visits Nothing l = omega (arith, v .times)
-  times-after Visits (To slot k) l = omega (arith, v .times)
-
-  taken-turn : (step : Step) → m .state .«last_turn» ≤ time → Valid (unitTurned step (sweptBy step m) time m)
+  taken-turn : (step : Step) → Valid (unitTurned step (sweptBy step m) time m)
   unfolding sweptBy
-  taken-turn step l =
-      let limit = m .parameters .«max_retry_limit» in
+  taken-turn step =
       let from = startOf step (m .state) in
-      let s = sweep-sent limit (m .occupied) (slots - from) from nothingSeen (m .peripherals) refl in
-      valid-on m v (sweptBy step m .balances) (afterTurn step (sweptBy step m .seen .sent) time (m .state)) (sweep-on limit (m .occupied) (slots - from) from nothingSeen (m .peripherals))
-      (sweep-length limit (m .occupied) (slots - from) from nothingSeen (m .peripherals) ∙ v .table)
-      (place-after step (sweptBy step m .seen .sent) s) (open-after step (sweptBy step m .seen .sent) s) (times-after step (sweptBy step m .seen .sent) l)
+      let w = sweep-went (m .parameters) (m .occupied) (slots - from) from nothingSeen (m .peripherals) (v .table ∙ sym (v .marks)) refl in
+      valid-on m v (sweptBy step m .balances) (afterTurn step (sweptBy step m .seen .sent) time (m .state)) (w .on) (w .size ∙ v .table)
+      (standing-after step (sweptBy step m .seen .sent) (sweptBy step m .balances) (w .to))
 
 two : _≡_ {A = ℕ} 2 0 → ⊥
 two e = omega arith
@@ -152,5 +137,5 @@ pub turn-valid : (m : DpMaster) (time : ℕ) (high : Bool) (setup outputs buf ou
 turn-valid m time high setup outputs buf out r c v =
     let n = turnRefusal (m .parameters) (m .state) time (length setup) (length outputs) (length buf) in
     by-test (eqb n 0)
-    (λ e. subst Valid (sym (c .after ∙ rw e refl)) (taken-turn m v time (stepAt time high m) (not-early m time (length setup) (length outputs) (length buf) (eqb-true n 0 e))))
+    (λ e. subst Valid (sym (c .after ∙ rw e refl)) (taken-turn m v time (not-early m time (length setup) (length outputs) (length buf) (eqb-true n 0 e)) (stepAt time high m)))
     (λ e. subst Valid (sym (c .after ∙ rw e refl)) v)
