@@ -326,7 +326,7 @@ module _ (w : World) (l : List Entry) (i : Inv w l) where
       by-sent Nothing e q v = absurd (Option·none-ne-some s q)
       by-sent (To t k) e q v =
           let z : t ≡ s = cc in
-          let o : occupied (w .unit) t = ⊎-elim (λ n. absurd (is-kind k n)) (λ o. o) (v .opened) in
+          let o : occupied (w .unit) t = ⊎-elim (λ c. absurd (is-kind k (c .kind))) (λ o. o .there) (v .standing .request) in
           reached-asked Visits payload buf s k (subst (occupied (w .unit)) z o) (rw z at e)
 
   -- ---- asked for data
