@@ -30,13 +30,13 @@ use Rattle.log.specs.Calls.{Pools, World, lend, Call, add, enter, turn, 
 use Rattle.log.specs.Words.{Entry, turnOf, slotAsked, reportedOffline, slotLog, Frame, frameOf, occupiedIn, Moved, reached, dueOf, asksData}
 use Rattle.log.specs.Run.{run}
 use Rattle.log.specs.Promises.{ImageTold, ReadTold, FrameTold, AskedTold, ReachedTold, Masked, MaskTold, FirstTold, NextTold, NeverOverlap}
-use Rattle.log.proofs.Wording.{and-l, and-r, ready, wording, due-wording}
+use Rattle.log.proofs.Wording.{ready, wording, due-wording}
 use Rattle.log.proofs.Steps.{turn-accepted, reply-accepted, refused-same, valid-step, always-valid}
 use Rattle.log.proofs.Units.{Inv, InvAt, inv-enter, inv-write, inv-hand, inv-wish, inv-reset}
 use Rattle.log.proofs.Lent.{lent-same}
 use Rattle.log.proofs.Adding.{first-empty, inv-add}
 use Rattle.log.proofs.Replying.{reply-moves, inv-reply}
-use Rattle.log.proofs.Turning.{inv-turn, asked-reached, asked-step, mask-bits, mask-event}
+use Rattle.log.proofs.Turning.{is-true, inv-turn, asked-reached, asked-step, mask-bits, mask-event}
 
 -- ---- a fresh unit
 
@@ -105,10 +105,6 @@ inv-run u pools [] = inv-fresh u pools (always-valid u pools [])
 inv-run u pools (c ∷ cs) = any-call (run u pools cs .world) (run u pools cs .log) (inv-run u pools cs) c (accepted (step (run u pools cs .world) c .answer)) refl
 
 -- ---- what the log says is occupied is so
-
-is-true : (b : Bool) → T b → b ≡ true
-is-true true h = refl
-is-true false h = absurd h
 
 there : (w : World) (l : List Entry) (i : Inv w l) (s : ℕ) → T (occupiedIn l s) → occupied (w .unit) s
 there w l i s h = is-true _ (rw (← i .frame-is) at h)

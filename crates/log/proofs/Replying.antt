@@ -66,12 +66,15 @@ next-place l t e h = by-test (ltb next slots) (λ c. rw c (found (ltb-true next 
     empty : (s : ℕ) → t < s → s < slots → s < next → T (not (occupiedIn l s))
     empty s a b c = rw (search-first slots true marks (slots - (t + 1)) (t + 1) s (omega arith) (omega arith) c) tt
 
+    later : t < next
+    later = omega (arith, search-from slots true marks (slots - (t + 1)) (t + 1) (omega arith))
+
     found : next < slots → Moved l (record { slot = next; past = false })
     found c =
         record {
           slot = t;
           newest = e;
-          next = λ p. (omega (arith, search-from slots true marks (slots - (t + 1)) (t + 1) (omega arith)), rw (search-found slots true marks (slots - (t + 1)) (t + 1) c) tt);
+          next = λ p. (later, rw (search-found slots true marks (slots - (t + 1)) (t + 1) c) tt);
           between = λ s a b. empty s a (omega arith) b;
         }
 

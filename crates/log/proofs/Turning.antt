@@ -18,7 +18,6 @@ use Rattle.telegrams.specs.declared.request.Request.the-variants.{Diagnosis, Pa
 use Rattle.telegrams.specs.Request.{kindNumber}
 use Rattle.station.specs.declared.visit.Visited.{Visited}
 use Rattle.station.specs.declared.visit.Visited.the-variants.{Sent as Sends, Fell, Skipped}
-use Rattle.station.specs.declared.record.Station.{Station}
 use Rattle.station.specs.declared.state.PeripheralEvent.the-variants.{Nothing as NoEvent, Offline as WentOffline}
 use Rattle.station.specs.State.{stateOf}
 use Rattle.station.specs.Visit.{visitedOf}
@@ -35,7 +34,7 @@ use Rattle.cycle.specs.declared.state.OperatingState.{OperatingState}
 use Rattle.cycle.specs.declared.state.OperatingState.the-variants.{Stop, Clear, Operate}
 use Rattle.cycle.specs.declared.state.Step.{Step}
 use Rattle.cycle.specs.declared.state.Step.the-variants.{Stop as Stopped, Control, Back, Visits}
-use Rattle.cycle.specs.Seen.{nothingSeen, indexOf, idle}
+use Rattle.cycle.specs.Seen.{nothingSeen, idle}
 use Rattle.cycle.specs.State.{operatingOf, dueOf as controlDue, stepOf, startOf, afterTurn}
 use Rattle.answers.specs.Turn.{transmissionOf, visitsTransmit, completesOf, fellEvent, handleOf}
 use Rattle.master.specs.declared.unit.DpMaster.{DpMaster}
@@ -91,6 +90,10 @@ address-kept false v p = refl
 address-kept true (Sends k) p = refl
 address-kept true Fell p = refl
 address-kept true Skipped p = refl
+
+pub is-true : (b : Bool) → T b → b ≡ true
+is-true true h = refl
+is-true false h = absurd h
 
 one-or-none : (b : Bool) → eqb (pick b 1 0) 1 ≡ b
 one-or-none true = refl
@@ -343,10 +346,6 @@ module _ (w : World) (l : List Entry) (i : Inv w l) where
   not-fell true true r eb e t = absurd (rw e at t)
   not-fell true false r eb e t = refl
   not-fell false f r eb e t = absurd (false≢true eb)
-
-  is-true : (b : Bool) → T b → b ≡ true
-  is-true true h = refl
-  is-true false h = absurd h
 
   pub asked-step : (step : Step) (payload buf : List ℕ) (s : ℕ) → let a = turnAnswer step (sweptBy step (w .unit)) (w .unit) payload buf in
       T (reached l a s) → T (not (reportedOffline s a)) → asksData s (a .transmission) ≡ (not (dueOf (slotLog s l)) && ready (slotLog s l))
