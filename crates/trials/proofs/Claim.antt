@@ -1,8 +1,9 @@
--- Each row of the table comes out as 01 says.
+-- Each row of the table has the number that 01 gives it, and comes out as 01 says.
 -- The idea: both columns are computed, and are the same list.
 use mathlib.Core.Path.{_≡_, refl}
-use mathlib.Core.List.{List, map}
+use mathlib.Core.List.{map}
 use Rattle.parts.specs.Parts.{part, inside, putIn, roomFor, splice}
+use Rattle.fdl.specs.Params.{inRange, held}
 use Rattle.telegrams.specs.Payload.{paramHead, controlPayload}
 use Rattle.telegrams.specs.Diagnosis.{diagnosisOf}
 use Rattle.station.specs.Record.{tookOf}
@@ -12,12 +13,13 @@ use Rattle.peripheral.specs.Visit.{payloadOf}
 use Rattle.peripheral.specs.Reply.{storedLength, diagsTaken, stationTook, isImage, hearsOf}
 use Rattle.peripheral_set.specs.Marks.{searchFrom}
 use Rattle.cycle.specs.State.{dueOf}
-use Rattle.cycle.specs.Refusal.{turnRefusal, replyRefusal}
+use Rattle.cycle.specs.Refusal.{turnRefusal, replyRefusal, addressRefusal, lengthRefusal, roomRefusal, addRefusal}
+use Rattle.master.specs.Unit.{emptyUnit, createdOf}
 use Rattle.master.specs.Turn.{sweepFrom, sweptBy, turnPayload, turnAnswer}
 use Rattle.master.specs.Reply.{replyAt}
-use Rattle.trials.specs.Trial.{Outcome, outcomesOf}
-use Rattle.trials.specs.Table.{Row, table}
+use Rattle.log.specs.Calls.{step}
+use Rattle.trials.specs.Table.{table, lineOf, marked, expectedIn}
 
-pub rows-hold : map (λ (r : Row). outcomesOf (r .input)) table ≡ map (λ (r : Row). r .expected) table
-unfolding part inside putIn roomFor splice paramHead controlPayload diagnosisOf tookOf wishOf byFlags heardOf payloadOf storedLength diagsTaken stationTook isImage hearsOf searchFrom dueOf turnRefusal replyRefusal sweepFrom sweptBy turnPayload turnAnswer replyAt
+pub rows-hold : map lineOf table ≡ expectedIn marked table
+unfolding step inRange held createdOf emptyUnit addRefusal addressRefusal lengthRefusal roomRefusal part inside putIn roomFor splice paramHead controlPayload diagnosisOf tookOf wishOf byFlags heardOf payloadOf storedLength diagsTaken stationTook isImage hearsOf searchFrom dueOf turnRefusal replyRefusal sweepFrom sweptBy turnPayload turnAnswer replyAt
 rows-hold = refl

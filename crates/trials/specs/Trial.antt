@@ -1,53 +1,114 @@
 -- A trial: a balance in some state, the calls that follow, and what each of them answers.
--- From 01, "Trial runs"; the outcomes are those of the definitions that the contracts of `master` cite, and of nothing else.
-use Prim.Native.Nat.{ℕ, _+_}
+-- From 01, "Trial runs"; what a call does is `step` of the log, and nothing else.
+use Prim.Native.Nat.{ℕ}
 use mathlib.Core.Bool.{Bool, true, false}
 use mathlib.Core.List.{List, [], _∷_}
-use lib.ListN.{length, set, replicate, take}
-use lib.Dec.{eqb}
-use Rattle.parts.specs.Parts.{pick, putIn, zeros}
-use Rattle.fdl.specs.Reply.{carried}
+use lib.ListN.{take}
+use Rattle.parts.specs.Parts.{pick, zeros}
 use Rattle.fdl.specs.declared.parameters.Parameters.{Parameters}
 use Rattle.fdl.specs.declared.telegram.Telegram.{Telegram}
 use Rattle.telegrams.specs.Request.{kindNumber}
-use Rattle.telegrams.specs.Diagnosis.{noDiagnosis}
-use Rattle.station.specs.declared.record.Station.{Station}
+use Rattle.station.specs.declared.state.PeripheralState.{PeripheralState}
 use Rattle.station.specs.State.{eventNumber}
-use Rattle.station.specs.Record.{lastDiagnosis}
+use Rattle.station.specs.Record.{at, lastDiagnosis}
 use Rattle.peripheral.specs.declared.record.Peripheral.{Peripheral}
-use Rattle.peripheral.specs.declared.reply.Reply.{Reply as Reaction}
-use Rattle.peripheral.specs.Record.{blank, inputImage}
-use Rattle.peripheral.specs.Reply.{takes, inputsOf, diagsOf}
-use Rattle.peripheral_set.specs.Marks.{slots}
+use Rattle.peripheral.specs.Record.{stationIs, inputImage}
 use Rattle.cycle.specs.declared.state.OperatingState.the-variants.{Operate}
-use Rattle.cycle.specs.declared.state.Step.{Step}
-use Rattle.cycle.specs.State.{operatingNumber}
-use Rattle.cycle.specs.Refusal.{turnRefusal, replyRefusal}
 use Rattle.answers.specs.declared.turn.Transmission.{Transmission}
 use Rattle.answers.specs.declared.turn.Transmission.the-variants.{Nothing, Control, Request}
-use Rattle.answers.specs.declared.turn.TurnAnswer.{TurnAnswer}
-use Rattle.master.specs.declared.unit.DpMaster.{DpMaster}
-use Rattle.master.specs.Turn.{Swept, stepAt, sweptBy, unitTurned, turnPayload, turnAnswer}
-use Rattle.master.specs.Reply.{openBalance, replyAt, replyAnswer, unitReplied}
+use Rattle.master.specs.Unit.{balanceAt}
+use Rattle.master.specs.Handle.{balanceIs}
+use Rattle.log.specs.Calls.{Pools, World, Call, add, enter, turn, reply, Answer, number, added, turned, replied, refusal, accepted, Outcome as Done, step}
+use Rattle.log.specs.Run.{run}
+
+-- ---- the bench of every trial: the watchdog, Tsdr, ident and groups of the first, the slot time of the eighth
+
+abbrev pub own : ℕ
+own = 2
+
+abbrev pub address : ℕ
+address = 8
+
+-- the pools are lent whole: 3 bytes of set-up data and one of input; there are no outputs, and no room for diagnosis
+abbrev pub poolsAre : List ℕ → List ℕ → Pools
+poolsAre setup inputs = record { setup = setup; inputs = inputs; outputs = []; diags = [] }
+
+abbrev pub parametersOf : ℕ → Parameters
+parametersOf limit =
+    record {
+      «slot_time» = 200;
+      «setup_pool» = 3;
+      «input_pool» = 1;
+      «output_pool» = 0;
+      «diag_pool» = 0;
+      address = own;
+      «max_retry_limit» = limit;
+      watchdog = true;
+      «watchdog_first» = 2;
+      «watchdog_second» = 5;
+      «min_tsdr_bits» = 11;
+    }
+
+-- ---- its calls
+
+-- the balance, with these user parameters, an empty configuration, and an input image of so many bytes
+abbrev pub addWith : List ℕ → ℕ → Call
+addWith user image =
+    add
+    (record {
+      address = address;
+      options =
+          record {
+            «ident_number» = 0x1234;
+            «max_tsdr» = 0;
+            groups = 0;
+            «sync_mode» = false;
+            «freeze_mode» = false;
+            «fail_safe» = false;
+            «has_user_parameters» = true;
+            «user_parameters» = 0;
+            «has_config» = true;
+            config = 0;
+          };
+      «input_len» = image;
+      «output_len» = 0;
+      room = 0;
+    })
+    user [] (record { setup = 3; inputs = 1; outputs = 0; diags = 0 })
+
+-- a turn at that time
+abbrev pub turnAt : ℕ → Call
+turnAt time = turn time false 3 0 (zeros 244)
+
+-- a reply of the balance
+abbrev pub answers : Telegram → List ℕ → Call
+answers t payload = reply address t payload 1 0
 
 -- ---- what goes in
 
-pub data Call : Type 0 where
-  Turn : ℕ → Call
-  Answer : Telegram → List ℕ → Call
-
--- retry limit; time of the last global control; user parameters; input image; state of the balance, whose count is 0 and whose bit is First; the calls
+-- retry limit; time of the last global control; user parameters; length of the input image; state that the balance is in; the calls
 pub record Trial : Type 0 where
   pub limit : ℕ
   pub control : ℕ
   pub user : List ℕ
-  pub image : List ℕ
-  pub state : ℕ
+  pub image : ℕ
+  pub state : PeripheralState
   pub calls : List Call
+
+-- the unit is created, the balance added, Operate entered, and the global control sent
+abbrev pub prepared : Trial → World
+prepared t = run (parametersOf (t .limit)) (poolsAre (zeros 3) (zeros 1)) (turnAt (t .control) ∷ enter Operate ∷ addWith (t .user) (t .image) ∷ []) .world
+
+abbrev pub inState : PeripheralState → Peripheral → Peripheral
+inState s p = stationIs (at s (p .station)) p
+
+-- then the balance is put into its state, and a 7 into the input pool, so that an image that is kept can be told from one of zeros
+abbrev pub startOf : PeripheralState → World → World
+startOf s w = record { unit = balanceIs 0 (inState s (balanceAt (w .unit .peripherals) 0)) (w .unit); pools = poolsAre (w .pools .setup) (7 ∷ []) }
 
 -- ---- what comes out
 
--- what a balance is after a reply, with the event that the reply reports
+-- what the balance is after a reply, with the event that the reply reports
 pub record Reading : Type 0 where
   pub event : ℕ
   pub state : ℕ
@@ -58,115 +119,16 @@ pub record Reading : Type 0 where
   pub master : ℕ
   pub image : List ℕ
 
--- a refused call; a turn with its event, mask, kind of what it sent (5 is global control) and payload; a reply
+-- a refused call, or one that answers its number alone; a turn with its event, mask, kind of what it sent (5 is global control) and payload; a reply
 pub data Outcome : Type 0 where
-  Refused : ℕ → Outcome
+  Number : ℕ → Outcome
   Turned : ℕ → ℕ → ℕ → List ℕ → Outcome
   Heard : Reading → Outcome
-
--- ---- the unit of a trial: the watchdog, Tsdr, ident and groups of the first, the slot time of the eighth
-
-abbrev pub own : ℕ
-own = 2
-
-abbrev pub address : ℕ
-address = 8
-
-abbrev pub parametersOf : Trial → Parameters
-parametersOf t =
-    record {
-      «slot_time» = 200;
-      «setup_pool» = length (t .user);
-      «input_pool» = length (t .image);
-      «output_pool» = 0;
-      «diag_pool» = 0;
-      address = own;
-      «max_retry_limit» = t .limit;
-      watchdog = true;
-      «watchdog_first» = 2;
-      «watchdog_second» = 5;
-      «min_tsdr_bits» = 11;
-    }
-
-abbrev pub stationOf : Trial → Station
-stationOf t =
-    record {
-      address = address;
-      state = t .state;
-      «retry_count» = 0;
-      fcb = 1;
-      «diag_needed» = false;
-      «diag_len» = 0;
-      diag = noDiagnosis;
-    }
-
-abbrev pub balanceOf : Trial → Peripheral
-balanceOf t =
-    record {
-      station = stationOf t;
-      ranges = record { setup = 0; inputs = 0; outputs = 0; diag = 0; «input_len» = length (t .image); «output_len» = 0; «diag_room» = 0 };
-      options =
-          record {
-            «ident_number» = 0x1234;
-            «max_tsdr» = 0;
-            groups = 0;
-            «sync_mode» = false;
-            «freeze_mode» = false;
-            «fail_safe» = false;
-            «has_user_parameters» = true;
-            «user_parameters» = length (t .user);
-            «has_config» = true;
-            config = 0;
-          };
-    }
-
-abbrev pub unitOf : Trial → DpMaster
-unitOf t =
-    record {
-      state =
-          record {
-            «last_turn» = t .control;
-            «last_control» = t .control;
-            slot = 0;
-            completed = false;
-            «open_slot» = 0;
-            «open_kind» = 0;
-            turned = true;
-            controlled = true;
-            operating = operatingNumber Operate;
-          };
-      parameters = parametersOf t;
-      used = record { setup = length (t .user); inputs = length (t .image); outputs = 0; diags = 0 };
-      occupied = set (replicate slots false) 0 true;
-      peripherals = set (replicate slots blank) 0 (balanceOf t);
-    }
-
--- ---- a call
-
--- what the calls change: the unit and the input pool; there is no room for diagnosis here
-pub record World : Type 0 where
-  pub unit : DpMaster
-  pub inputs : List ℕ
-
-pub record Done : Type 0 where
-  pub outcome : Outcome
-  pub world : World
 
 abbrev pub sentNumber : Transmission → ℕ
 sentNumber Nothing = 0
 sentNumber (Control header) = 5
 sentNumber (Request slot k header) = kindNumber k
-
--- the payload is what stands at the front of the buffer
-abbrev pub turnOutcome : TurnAnswer → List ℕ → Outcome
-turnOutcome a buf = Turned (eventNumber (a .event)) (a .offline) (sentNumber (a .transmission)) (take (a .len) buf)
-
-abbrev pub turnBy : Step → Swept → ℕ → List ℕ → World → Done
-turnBy step w time payload now =
-    record {
-      outcome = turnOutcome (turnAnswer step w (now .unit) payload (zeros 244)) (putIn 0 (length payload) payload (zeros 244));
-      world = record { unit = unitTurned step w time (now .unit); inputs = now .inputs };
-    }
 
 abbrev pub readingOf : ℕ → Peripheral → List ℕ → Reading
 readingOf event p inputs =
@@ -181,33 +143,21 @@ readingOf event p inputs =
       image = inputImage p inputs;
     }
 
-abbrev pub replyBy : Reaction → List ℕ → DpMaster → Done
-replyBy r inputs m =
-    record {
-      outcome = Heard (readingOf (eventNumber (replyAnswer m r .event)) (r .peripheral) inputs);
-      world = record { unit = unitReplied m r; inputs = inputs };
-    }
+-- of an accepted call; the payload is what stands at the front of the buffer
+abbrev pub doneOf : Answer → World → Outcome
+doneOf (number n) w = Number n
+doneOf (added n h) w = Number n
+doneOf (turned a buf) w = Turned (eventNumber (a .event)) (a .offline) (sentNumber (a .transmission)) (take (a .len) buf)
+doneOf (replied a) w = Heard (readingOf (eventNumber (a .event)) (balanceAt (w .unit .peripherals) 0) (w .pools .inputs))
 
--- the number and the same world where it is not 0
-abbrev pub orRefused : ℕ → World → Done → Done
-orRefused n now done = pick (eqb n 0) done (record { outcome = Refused n; world = now })
+abbrev pub outcomeOf : Answer → World → Outcome
+outcomeOf a w = pick (accepted a) (doneOf a w) (Number (refusal a))
 
-abbrev pub called : Call → List ℕ → World → Done
-called (Turn time) setup now =
-    let step : Step = stepAt time false (now .unit) in
-    let w : Swept = sweptBy step (now .unit) in
-    orRefused (turnRefusal (now .unit .parameters) (now .unit .state) time (length setup) 0 244) now (turnBy step w time (turnPayload step w (now .unit) setup []) now)
-called (Answer t payload) setup now =
-    let m : DpMaster = now .unit in
-    let r : Reaction = replyAt t m payload (now .inputs) [] in
-    orRefused (replyRefusal (m .parameters) (m .state) (openBalance m .station .address) address t (length payload) (length (now .inputs)) 0) now
-    (replyBy r (inputsOf (r .event) (carried t payload) (openBalance m) (now .inputs)) m)
-
--- one call after the other
-abbrev pub outcomesFrom : List Call → List ℕ → World → List Outcome
-outcomesFrom [] setup now = []
-outcomesFrom (c ∷ calls) setup now = let done : Done = called c setup now in done .outcome ∷ outcomesFrom calls setup (done .world)
+-- one call after the other, oldest first
+abbrev pub outcomesFrom : List Call → World → List Outcome
+outcomesFrom [] w = []
+outcomesFrom (c ∷ calls) w = let done : Done = step w c in outcomeOf (done .answer) (done .world) ∷ outcomesFrom calls (done .world)
 
 -- from the inputs of a trial to its outcomes
 abbrev pub outcomesOf : Trial → List Outcome
-outcomesOf t = outcomesFrom (t .calls) (t .user) (record { unit = unitOf t; inputs = t .image })
+outcomesOf t = outcomesFrom (t .calls) (startOf (t .state) (prepared t))
