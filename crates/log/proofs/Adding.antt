@@ -1,5 +1,5 @@
 -- An accepted add keeps what holds of unit and log.
--- The idea: the new slot was empty, its range lies after all others and is zeroed.
+-- The idea: the new range lies after all others and is zeroed, and the note of an add leaves the last request.
 use mathlib.Core.Path.{_≡_, refl, sym, ap, _∙_}
 use mathlib.Core.Bool.{true, false}
 use mathlib.Core.Logic.{inl}
@@ -29,7 +29,7 @@ use Rattle.log.specs.Calls.{World, lend, back, add, added, addStep, addN
 use Rattle.log.specs.Words.{Entry, Note, wasAdded, Frame, slotLog, frameAfter, FirstEmpty, imageOf}
 use Rattle.log.proofs.Stations.{Told, told-added}
 use Rattle.log.proofs.Lent.{lent-same, lent-back}
-use Rattle.log.proofs.Units.{asked-same, Inv, InvAt, at-set}
+use Rattle.log.proofs.Units.{Inv, InvAt, at-set, asked-same}
 
 -- so many zeros put into a range of the pool
 cleared-part : (at n : ℕ) (pool : List ℕ) → at + n ≤ length pool → part at n (cleared at n pool) ≡ zeros n
