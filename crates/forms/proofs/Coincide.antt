@@ -45,8 +45,8 @@ pub last-coincides : (m : DpMaster) (h : PeripheralHandle) (pool : RefT (List �
 last-coincides m h pool r r′ one two = (one .numbers ∙ sym (two .numbers), itself-same (one .part) (two .part))
 
 -- the part read back, and where it lies
-pub extended-coincides : (d : PeripheralDiagnostics) (s s′ : RefT (List ℕ)) → s ≡ partOf d → s′ ≡ partOf d → s ≡ s′
-extended-coincides d s s′ one two = one ∙ sym two
+pub extended-coincides : (d : PeripheralDiagnostics) (r r′ : RefT (List ℕ)) → r ≡ partOf d → r′ ≡ partOf d → r ≡ r′
+extended-coincides d r r′ one two = one ∙ sym two
 
 -- ---- these are what the contracts say
 

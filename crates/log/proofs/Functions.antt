@@ -1,9 +1,13 @@
 -- Whatever the contracts of the functions allow is what `step` says, and so whatever was made is a `run`.
 -- The idea: what a caller learns from a contract is the relation of Ties.antt, at the arguments and at what the slices hold at entry and at exit; then one call after the other.
-use mathlib.Core.Path.{_≡_, refl, sym, _∙_, ap}
-use Prim.Native.Nat.{ℕ}
+use mathlib.Core.Path.{_≡_, refl, sym, _∙_, ap, subst}
+use Prim.Native.Nat.{ℕ, _+_}
+use native.Mathlib.Omega.{arith}
 use mathlib.Core.Bool.{Bool}
 use mathlib.Core.List.{List, []}
+use lib.ListN.{length}
+use denote.Ref.{now}
+use Rattle.parts.specs.Parts.{splice}
 use Rattle.fdl.specs.declared.parameters.Parameters.{Parameters}
 use Rattle.fdl.specs.declared.telegram.Telegram.{Telegram}
 use Rattle.peripheral_set.specs.declared.PeripheralHandle.{PeripheralHandle}
@@ -21,13 +25,15 @@ use Rattle.master.specs.Add.{Adding}
 use Rattle.master.specs.Turn.{Turned}
 use Rattle.master.specs.Reply.{Received}
 use Rattle.master.specs.Handle.{resetDone, wishDone}
-use Rattle.access.specs.Lookup.{Wrote}
-use Rattle.log.specs.Calls.{World, Call, Outcome, Pools, enter, number, unitIs, step}
-use Rattle.log.specs.Words.{Entry}
+use Rattle.access.specs.Lookup.{inputNumber, outputNumber, inputsSeen, outputsSeen, Wrote}
+use Rattle.log.specs.Calls.{World, Call, Outcome, Pools, lend, back, enter, hand, number, unitIs, outputsAre, step}
+use Rattle.log.specs.Words.{Entry, slotLog, imageOf}
 use Rattle.log.specs.Run.{Run, after, run}
-use Rattle.log.specs.Made.{Allowed, by-add, by-enter-state, by-enter-stop, by-enter-clear, by-enter-operate, by-transmit-telegram, by-receive-reply, by-reset-address, by-request-diagnostics, by-write-outputs, Made, by-new, then}
-use Rattle.log.specs.Promises.{AllowedIsStep, MadeIsRun}
-use Rattle.log.proofs.Ties.{add-tied, enter-tied, turn-tied, reply-tied, reset-tied, wish-tied, write-tied}
+use Rattle.log.specs.Made.{Allowed, by-add, by-enter-state, by-enter-stop, by-enter-clear, by-enter-operate, by-transmit-telegram, by-receive-reply, by-reset-address, by-request-diagnostics, by-write-outputs, by-pi-q-mut, Handed, by-pi-i, Made, by-new, then}
+use Rattle.log.specs.Promises.{AllowedIsStep, MadeIsRun, ReadTold}
+use Rattle.log.proofs.Ties.{add-tied, enter-tied, turn-tied, reply-tied, reset-tied, wish-tied, write-tied, hand-tied}
+use Rattle.log.proofs.Units.{Inv}
+use Rattle.log.proofs.Promised.{inv-run, read-by}
 
 -- ---- a contract, of the unit and the bytes that the function was given
 
@@ -48,6 +54,14 @@ writing m n h bytes o p out r em eo c = rw (em, eo) c
 entering : (w : World) (o : OperatingState) (z m : DpMaster) → w .unit ≡ m → z ≡ stateIs (entered o (m .state)) m → step w (enter o) ≡ record { world = unitIs z w; answer = number 0 }
 entering w o z m em c = enter-tied w o z (c ∙ ap (λ (x : DpMaster). stateIs (entered o (x .state)) x) (sym em))
 
+-- bytes that were written where a part lies
+handing : (w : World) (h : PeripheralHandle) (nq k : ℕ) (bytes : List ℕ) (m : DpMaster) (o : List ℕ) (from to : ℕ) (seen : List ℕ) (n : ℕ) → w .unit ≡ m → lend nq (w .pools .outputs) ≡ o
+    → seen ≡ outputsSeen m h o .bytes → to ≡ from + outputsSeen m h o .start → to ≡ from + k → length bytes ≡ length seen → n ≡ outputNumber (w .unit) h (lend nq (w .pools .outputs))
+    → step w (hand h bytes nq) ≡ record { world = outputsAre (back nq (splice k bytes (lend nq (w .pools .outputs))) (w .pools .outputs)) w; answer = number n }
+handing w h nq k bytes m o from to seen n em eo es et ek eb en =
+    let start : k ≡ outputsSeen m h o .start = omega (arith, et, ek) in
+    rw en (hand-tied w h nq k bytes (rw (em, eo) start) (eb ∙ rw (em, eo) (ap length es)))
+
 -- ---- the calls
 
 pub allowed-step : AllowedIsStep
@@ -61,7 +75,17 @@ allowed-step w _ _ (by-transmit-telegram κs a z e c ns nq em es eo) = turn-tied
 allowed-step w _ _ (by-receive-reply κs a z e c ni nd em ei ed) = reply-tied w (a .1 .0) (a .1 .1 .0) _ ni nd _ _ z (receiving (a .0) (w .unit) _ _ _ _ _ _ _ _ _ z em ei ed c)
 allowed-step w _ _ (by-reset-address κs a z e c em) = reset-tied w (a .1 .0) (a .1 .1 .0) z (c ∙ ap (λ (m : DpMaster). resetDone m (a .1 .0) (a .1 .1 .0)) (sym em))
 allowed-step w _ _ (by-request-diagnostics κs a z e c em) = wish-tied w (a .1 .0) z (c ∙ ap (λ (m : DpMaster). wishDone m (a .1 .0)) (sym em))
+allowed-step w _ _ (by-pi-q-mut κs a z e c λs b n f d nq k bytes em en eh eo ep ek eb) =
+    handing w (a .1 .0) nq k bytes (a .0) (now (a .1 .1 .0)) (a .1 .1 .0 .ptr .1) (z .ptr .1) (now z) n em eo (c .holds) (c .offset) ek eb (rw (en, ep, ← eh) d)
 allowed-step w _ _ (by-write-outputs κs a z e c nq em eo) = write-tied w (a .1 .0) _ nq _ z (writing (a .0) (w .unit) _ _ _ _ _ z em eo c)
+
+-- ---- what `pi_i` hands out
+
+handed : (m n : DpMaster) (h : PeripheralHandle) (i j bytes : List ℕ) → n ≡ m → j ≡ i → bytes ≡ inputsSeen m h i .bytes → bytes ≡ inputsSeen n h j .bytes
+handed m n h i j bytes em ei c = rw (em, ei) c
+
+read-of : (w : World) (l : List Entry) (h : PeripheralHandle) (lent bytes : List ℕ) → Inv w l → Handed w h lent bytes → inputNumber (w .unit) h lent ≡ 0 → bytes ≡ imageOf (slotLog (h .slot) l)
+read-of w l _ _ _ i (by-pi-i κs a z e c ni em ei) q = handed (a .0) (w .unit) (a .1 .0) _ _ (now z) em ei (c .holds) ∙ read-by w l i (a .1 .0) ni q
 
 -- ---- one call after the other
 
@@ -71,3 +95,6 @@ next-call x w l c o e s = rw (e, s) refl
 pub made-run : MadeIsRun
 made-run _ _ _ _ _ (by-new κs a z e c pools) = ap (λ (d : Done). record { world = record { unit = d .master; pools = pools }; log = [] }) (sym c)
 made-run _ _ _ _ _ (then u pools cs w l m c o s) = next-call (run u pools cs) w l c o (made-run u pools cs w l m) (allowed-step w c o s)
+
+pub read-told : ReadTold
+read-told u pools cs w l m h lent bytes r q = read-of w l h lent bytes (subst (λ (x : Run). Inv (x .world) (x .log)) (made-run u pools cs w l m) (inv-run u pools cs)) r q

@@ -6,15 +6,16 @@ use mathlib.Core.Logic.{_↔_}
 use mathlib.Core.List.{List, [], _∷_}
 use mathlib.Core.Option.{some, Option·none-ne-some}
 use Prim.Native.Nat.{ℕ}
+use native.Mathlib.Omega.{arith}
 use lib.ListN.{length, getD, replicate, length-replicate, getD-replicate, List·getD-eq-default}
 use lib.Dec.{T, eqb, ltb, leb}
 use lib.Pow.{pow-pos}
 use borrow.Author.Tests.{eqb-true, eq-eqb, ltb-true, ltb-false, lt-ltb}
 use Rattle.parts.specs.Parts.{pick}
-use Rattle.parts.proofs.Laws.{by-test, and-false}
+use Rattle.parts.proofs.Laws.{by-test, and-right, and-false}
 use Rattle.fdl.specs.declared.parameters.Parameters.{Parameters}
 use Rattle.fdl.specs.Params.{inRange, held, lowest}
-use Rattle.peripheral_set.specs.Marks.{slots}
+use Rattle.peripheral_set.specs.Marks.{slots, isOccupied}
 use Rattle.answers.specs.Turn.{refusedTurn}
 use Rattle.master.specs.Unit.{emptyUnit, createdOf}
 use Rattle.master.specs.Add.{userOf, configOf, lengthsOf}
@@ -22,14 +23,14 @@ use Rattle.master.specs.Turn.{stepAt, sweptBy}
 use Rattle.master.specs.Reply.{replyAt}
 use Rattle.master.proofs.Bits.{zero-bit}
 use Rattle.valid.specs.Valid.{Valid, balance, occupied}
-use Rattle.access.specs.Lookup.{foundIn}
+use Rattle.access.specs.Lookup.{foundIn, inputNumber, inputsSeen}
 use Rattle.master.specs.declared.unit.DpMaster.{DpMaster}
 use Rattle.valid.proofs.Balances.{marked-below}
 use Rattle.peripheral_set.specs.declared.PeripheralHandle.{PeripheralHandle}
 use Rattle.log.specs.Calls.{Pools, World, lend, Call, add, enter, turn, reply, reset, wish, write, hand, accepted, addStep, turnStep, replyStep, addNumber, turnNumber, replyNumber, turnPayloadAt, step}
-use Rattle.log.specs.Words.{Entry, turnOf, slotAsked, reportedOffline, slotLog, Frame, frameOf, occupiedIn, Moved, reached, dueOf, asksData}
+use Rattle.log.specs.Words.{Entry, turnOf, slotAsked, reportedOffline, slotLog, Frame, frameOf, occupiedIn, Moved, reached, dueOf, imageOf, asksData}
 use Rattle.log.specs.Run.{run}
-use Rattle.log.specs.Promises.{ImageTold, ReadTold, FrameTold, AskedTold, ReachedTold, Masked, MaskTold, FirstTold, NextTold, NeverOverlap}
+use Rattle.log.specs.Promises.{ImageTold, FrameTold, AskedTold, ReachedTold, Masked, MaskTold, FirstTold, NextTold, NeverOverlap}
 use Rattle.log.proofs.Wording.{ready, wording, due-wording}
 use Rattle.log.proofs.Steps.{turn-accepted, reply-accepted, refused-same, valid-step, always-valid}
 use Rattle.log.proofs.Units.{Inv, InvAt, inv-enter, inv-write, inv-hand, inv-wish, inv-reset}
@@ -100,7 +101,7 @@ module _ (w : World) (l : List Entry) (i : Inv w l) where
   any-call c true e = kept c e (valid-step w c (i .valid))
   any-call c false e = subst (λ (x : World). Inv x l) (sym (refused-same w c e)) i
 
-inv-run : (u : Parameters) (pools : Pools) (cs : List Call) → Inv (run u pools cs .world) (run u pools cs .log)
+pub inv-run : (u : Parameters) (pools : Pools) (cs : List Call) → Inv (run u pools cs .world) (run u pools cs .log)
 inv-run u pools [] = inv-fresh u pools (always-valid u pools [])
 inv-run u pools (c ∷ cs) = any-call (run u pools cs .world) (run u pools cs .log) (inv-run u pools cs) c (accepted (step (run u pools cs .world) c .answer)) refl
 
@@ -122,12 +123,19 @@ found-there : (m : DpMaster) → Valid m → (h : PeripheralHandle) → occupied
 unfolding foundIn
 found-there m v h o = let b = lt-ltb (h .slot) slots (marked-below m v (h .slot) o) in rw (b, o) refl
 
-pub read-told : ReadTold
-read-told u pools cs h n r o e q =
-    let w = run u pools cs .world in
-    let i = inv-run u pools cs in
-    let here = there w (run u pools cs .log) i (h .slot) o in
-    q ∙ rw (eq-eqb (length (lend n (w .pools .inputs))) (w .unit .parameters .«input_pool») e, found-there (w .unit) (i .valid) h here, lent-same n (w .unit .parameters .«input_pool») (w .pools .inputs) e) (i .images (h .slot) here)
+-- what `pi_i` hands out where its number is 0
+both-hold : (a b : Bool) → _≡_ {A = ℕ} (pick a (pick b 0 4) 2) 0 → (a ≡ true) × (b ≡ true)
+both-hold true true e = (refl, refl)
+both-hold true false e = absurd (omega arith)
+both-hold false b e = absurd (omega arith)
+
+pub read-by : (w : World) (l : List Entry) → Inv w l → (h : PeripheralHandle) (n : ℕ) → let lent = lend n (w .pools .inputs) in
+    inputNumber (w .unit) h lent ≡ 0 → inputsSeen (w .unit) h lent .bytes ≡ imageOf (slotLog (h .slot) l)
+read-by w l i h n z =
+    let lent = lend n (w .pools .inputs) in
+    let q = both-hold (eqb (length lent) (w .unit .parameters .«input_pool»)) (isOccupied (w .unit .occupied) (h .slot)) z in
+    let o = and-right (ltb (h .slot) slots) (getD (w .unit .occupied) (h .slot) false) (q .1) in
+    rw (z, found-there (w .unit) (i .valid) h o, lent-same n (w .unit .parameters .«input_pool») (w .pools .inputs) (eqb-true (length lent) (w .unit .parameters .«input_pool») (q .0))) (i .images (h .slot) o)
 
 pub never-overlap : NeverOverlap
 never-overlap u pools cs s t h k d =

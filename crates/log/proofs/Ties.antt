@@ -4,11 +4,11 @@ use mathlib.Core.Path.{_≡_, refl, sym, _∙_, subst}
 use Prim.Native.Nat.{ℕ, _+_, _≤_}
 use native.Mathlib.Omega.{arith}
 use mathlib.Core.Bool.{Bool, true, false, false≢true}
-use mathlib.Core.List.{List, []}
+use mathlib.Core.List.{List, [], _∷_}
 use lib.ListN.{length}
 use lib.Dec.{eqb}
-use Rattle.parts.specs.Parts.{pick, inside, part, roomFor, putIn}
-use Rattle.parts.proofs.Laws.{by-test, inside-yes, room-yes, part-put}
+use Rattle.parts.specs.Parts.{pick, inside, part, splice, roomFor, putIn}
+use Rattle.parts.proofs.Laws.{by-test, inside-yes, length-part, room-yes, room-outside, put-done, put-kept, part-put}
 use Rattle.peripheral.specs.Record.{outputImage}
 use Rattle.peripheral_set.specs.Marks.{isOccupied}
 use Rattle.valid.specs.Valid.{Valid, balance, occupied}
@@ -28,8 +28,8 @@ use Rattle.master.specs.Add.{Adding}
 use Rattle.master.specs.Turn.{Turned}
 use Rattle.master.specs.Reply.{Received}
 use Rattle.master.specs.Handle.{resetDone, wishDone}
-use Rattle.access.specs.Lookup.{foundIn, Wrote}
-use Rattle.log.specs.Calls.{World, lend, back, add, enter, turn, reply, reset, wish, write, number, added, turned, replied, unitIs, handNumber, step}
+use Rattle.access.specs.Lookup.{foundIn, outputsSeen, Wrote}
+use Rattle.log.specs.Calls.{World, lend, back, add, enter, turn, reply, reset, wish, write, hand, number, added, turned, replied, unitIs, outputsAre, handNumber, step}
 
 module _ (w : World) where
   pub add-tied : (a : Addition) (user config : List ℕ) (lent : Lent) (outSetup outInputs outOutputs outDiags : List ℕ) (r : Added)
@@ -87,27 +87,33 @@ module _ (w : World) where
       → step w (write h bytes nq)
       ≡ record {
         world =
-            record { unit = w .unit; pools = record { setup = w .pools .setup; inputs = w .pools .inputs; outputs = back nq out (w .pools .outputs); diags = w .pools .diags } };
+            outputsAre (back nq out (w .pools .outputs)) w;
         answer = number r;
       }
   unfolding step
   write-tied h bytes nq out r c = rw (c .answer, c .pool) refl
 
-  -- a part that is handed out when the call is refused is empty: nothing can be written there
-  none-at : (l : List ℕ) → part 0 0 l ≡ []
-  unfolding part
-  none-at l = by-test (inside 0 0 l) (λ e. rw e refl) (λ e. rw e refl)
+  -- bytes that stand where the part lies: in the image where the number is 0 and the range lies in the pool, else there are none
+  no-bytes : (bytes l : List ℕ) → length bytes ≡ 0 → splice 0 bytes l ≡ l
+  unfolding splice
+  no-bytes [] l e = refl
+  no-bytes (x ∷ xs) l e = absurd (omega arith)
 
-  not-there : (b : Bool) → eqb (pick b 0 4) 0 ≡ false → b ≡ false
-  not-there true e = absurd (false≢true (sym e))
-  not-there false e = refl
+  lies-at : (ok : Bool) (at len : ℕ) (bytes lent : List ℕ) → length bytes ≡ length (pick ok (part at len lent) [])
+      → pick ok (putIn at len bytes lent) lent ≡ splice (pick ok (pick (inside at len lent) at 0) 0) bytes lent
+  lies-at true at len bytes lent e =
+      by-test (inside at len lent)
+      (λ q. rw q (put-done at len bytes lent (room-yes at len bytes lent (let n : length bytes ≡ len = e ∙ length-part at len lent ∙ rw q refl in omega arith) q)))
+      (λ q. rw q (put-kept at len bytes lent (room-outside at len bytes lent q) ∙ sym (no-bytes bytes lent (e ∙ length-part at len lent ∙ rw q refl))))
+  lies-at false at len bytes lent e = sym (no-bytes bytes lent e)
 
-  pub hand-empty : (h : PeripheralHandle) (nq : ℕ) (r : List ℕ) → let lent = lend nq (w .pools .outputs) in
-      eqb (handNumber h nq w) 0 ≡ false → r ≡ pick (eqb (length lent) (w .unit .parameters .«output_pool»)) (outputImage (foundIn (w .unit) h) lent) [] → r ≡ []
-  unfolding foundIn
-  hand-empty h nq r e q =
-      by-test (eqb (length (lend nq (w .pools .outputs))) (w .unit .parameters .«output_pool»))
-      (λ t. q ∙ rw (t, not-there (isOccupied (w .unit .occupied) (h .slot)) (rw t at e)) (none-at (lend nq (w .pools .outputs)))) (λ t. q ∙ rw t refl)
+  pub hand-tied : (h : PeripheralHandle) (nq k : ℕ) (bytes : List ℕ) → let seen = outputsSeen (w .unit) h (lend nq (w .pools .outputs)) in
+      k ≡ seen .start → length bytes ≡ length (seen .bytes)
+      → step w (hand h bytes nq) ≡ record { world = outputsAre (back nq (splice k bytes (lend nq (w .pools .outputs))) (w .pools .outputs)) w; answer = number (handNumber h nq w) }
+  unfolding step
+  hand-tied h nq k bytes ek eb =
+      let p = foundIn (w .unit) h in
+      rw (ek, lies-at (eqb (handNumber h nq w) 0) (p .ranges .outputs) (p .ranges .«output_len») bytes (lend nq (w .pools .outputs)) eb) refl
 
 -- and any contents of an output image can be put there: bytes as long as the image
 pub hand-any : (w : World) → Valid (w .unit) → (h : PeripheralHandle) (bytes : List ℕ) (nq : ℕ) → let p = balance (w .unit) (h .slot) in

@@ -31,7 +31,7 @@ use Rattle.master.specs.Add.{userOf, configOf, lengthsOf, setupAfter, cleared, 
 use Rattle.master.specs.Turn.{Swept, stepAt, sweptBy, unitTurned, turnPayload, turnAnswer}
 use Rattle.master.specs.Reply.{openBalance, replyAt, replyAnswer, unitReplied}
 use Rattle.master.specs.Handle.{resetDone, wishDone}
-use Rattle.access.specs.Lookup.{foundIn, pooledRefusal, writeRefusal}
+use Rattle.access.specs.Lookup.{foundIn, outputNumber, writeRefusal}
 
 -- ---- the unit and its pools
 
@@ -177,7 +177,7 @@ abbrev pub writeNumber : PeripheralHandle → List ℕ → ℕ → World → ℕ
 writeNumber h bytes nq w = writeRefusal (w .unit) h bytes (lend nq (w .pools .outputs))
 
 abbrev pub handNumber : PeripheralHandle → ℕ → World → ℕ
-handNumber h nq w = pooledRefusal (length (lend nq (w .pools .outputs))) (w .unit .parameters .«output_pool») h (w .unit .occupied)
+handNumber h nq w = outputNumber (w .unit) h (lend nq (w .pools .outputs))
 
 -- ---- one call
 

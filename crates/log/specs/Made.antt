@@ -2,13 +2,16 @@
 -- From 01, "What the contracts have to say": answer, new record and the contents of every buffer follow from the call's inputs.
 -- a: the arguments, z: the result, e: the lent slices at exit; `Learnt` is what a caller learns of them from the contract, and nothing else is used.
 use mathlib.Core.Path.{_≡_}
-use Prim.Native.Nat.{ℕ}
+use Prim.Native.Nat.{ℕ, _+_}
 use mathlib.Core.List.{List, [], _∷_}
+use lib.ListN.{length}
 use contract.Lifetimes.{Lfts}
 use borrow.Fn.Kinds.{Dens, resT, endedOf}
 use denote.Triple.Clauses.{AtExit}
 use denote.Ref.{now}
+use Rattle.parts.specs.Parts.{splice}
 use Rattle.fdl.specs.declared.parameters.Parameters.{Parameters}
+use Rattle.peripheral_set.specs.declared.PeripheralHandle.{PeripheralHandle}
 use Rattle.cycle.specs.declared.refusal.Lent.{Lent}
 use Rattle.cycle.specs.declared.state.OperatingState.the-variants.{Stop, Clear, Operate}
 use Rattle.master.proofs.unit.DpMaster.new.Kinds as K·new
@@ -33,7 +36,13 @@ use Rattle.master.proofs.unit.DpMaster.request_diagnostics.Kinds as K·wish
 use Rattle.master.proofs.unit.DpMaster.request_diagnostics.Reads as R·wish
 use Rattle.access.proofs.images.write_outputs.Kinds as K·write
 use Rattle.access.proofs.images.write_outputs.Reads as R·write
-use Rattle.log.specs.Calls.{Call, add, enter, turn, reply, reset, wish, write, number, added, turned, replied, Pools, World, Outcome, lend, back, unitIs, outputsAre}
+use Rattle.access.proofs.images.pi_q_mut.Kinds as K·hand
+use Rattle.access.proofs.images.pi_q_mut.Reads as R·hand
+use Rattle.access.proofs.images.pi_q_refusal.Kinds as K·number
+use Rattle.access.proofs.images.pi_q_refusal.Reads as R·number
+use Rattle.access.proofs.images.pi_i.Kinds as K·image
+use Rattle.access.proofs.images.pi_i.Reads as R·image
+use Rattle.log.specs.Calls.{Call, add, enter, turn, reply, reset, wish, write, hand, number, added, turned, replied, Pools, World, Outcome, lend, back, unitIs, outputsAre}
 use Rattle.log.specs.Words.{Entry}
 use Rattle.log.specs.Run.{after}
 
@@ -92,6 +101,17 @@ pub data Allowed (w : World) : Call → Outcome → Type 0 where
   by-write-outputs : (κs : Lfts 2) (a : Dens κs K·write.ps) (z : resT K·write.r κs .Denot) (e : AtExit (endedOf 2 K·write.ps K·write.r) κs) → R·write.Learnt κs a z e
       → (nq : ℕ) → w .unit ≡ a .0 → lend nq (w .pools .outputs) ≡ now (a .1 .1 .1 .0)
       → Allowed w (write (a .1 .0) (now (a .1 .1 .0)) nq) (record { world = outputsAre (back nq (now (e .1 .1 .1 .0)) (w .pools .outputs)) w; answer = number z })
+  -- `pi_q_mut`, and then bytes written through the part: they stand where it lies, k bytes behind the start of the lent pool; its number is that of `pi_q_refusal`
+  by-pi-q-mut : (κs : Lfts 1) (a : Dens κs K·hand.ps) (z : resT K·hand.r κs .Denot) (e : AtExit (endedOf 1 K·hand.ps K·hand.r) κs) → R·hand.Learnt κs a z e
+      → (λs : Lfts 1) (b : Dens λs K·number.ps) (n : resT K·number.r λs .Denot) (f : AtExit (endedOf 1 K·number.ps K·number.r) λs) → R·number.Learnt λs b n f
+      → (nq k : ℕ) (bytes : List ℕ) → w .unit ≡ a .0 → w .unit ≡ b .0 → b .1 .0 ≡ a .1 .0 → lend nq (w .pools .outputs) ≡ now (a .1 .1 .0) → lend nq (w .pools .outputs) ≡ now (b .1 .1 .0)
+      → z .ptr .1 ≡ a .1 .1 .0 .ptr .1 + k → length bytes ≡ length (now z)
+      → Allowed w (hand (a .1 .0) bytes nq) (record { world = outputsAre (back nq (splice k bytes (lend nq (w .pools .outputs))) (w .pools .outputs)) w; answer = number n })
+
+-- what `pi_i` hands out of the inputs of w, and what it was lent of them
+pub data Handed (w : World) : PeripheralHandle → List ℕ → List ℕ → Type 0 where
+  by-pi-i : (κs : Lfts 1) (a : Dens κs K·image.ps) (z : resT K·image.r κs .Denot) (e : AtExit (endedOf 1 K·image.ps K·image.r) κs) → R·image.Learnt κs a z e
+      → (ni : ℕ) → w .unit ≡ a .0 → lend ni (w .pools .inputs) ≡ now (a .1 .1 .0) → Handed w (a .1 .0) (lend ni (w .pools .inputs)) (now z)
 
 -- whatever was made, newest call first: of these parameters and arrays the unit and the arrays are then w, and the log is l
 pub data Made : Parameters → Pools → List Call → World → List Entry → Type 0 where

@@ -22,12 +22,12 @@ use Rattle.answers.specs.declared.turn.TurnAnswer.{TurnAnswer}
 use Rattle.answers.specs.Turn.{refusedTurn}
 use Rattle.master.specs.declared.unit.DpMaster.{DpMaster}
 use Rattle.master.specs.declared.add.Addition.{Addition}
-use Rattle.access.specs.Lookup.{foundIn}
+use Rattle.access.specs.Lookup.{inputNumber}
 use Rattle.valid.specs.Valid.{Valid, Apart, balance}
 use Rattle.log.specs.Calls.{Call, add, turn, reply, turned, Pools, World, Outcome, accepted, refusal, lend, step}
 use Rattle.log.specs.Words.{Entry, turnOf, slotGiven, slotAsked, isOffline, bitSet, reportedOffline, slotLog, Frame, frameOf, occupiedIn, FirstEmpty, Moved, reached, imageOf, Due, Ready, asksData}
 use Rattle.log.specs.Run.{runBy, run, acceptedOf}
-use Rattle.log.specs.Made.{Allowed, Made}
+use Rattle.log.specs.Made.{Allowed, Handed, Made}
 
 -- ---- what is read of a unit
 
@@ -57,13 +57,10 @@ ImageBy f = (u : Parameters) (pools : Pools) (cs : List Call) → ImageAt f u po
 abbrev pub ImageTold : Type 0
 ImageTold = ImageBy step
 
--- and it is what `pi_i` hands out: r is any result that its contract allows, where the pool that is lent has its length
+-- and it is what `pi_i` hands out, where its number is 0: said of whatever was made, and of any result that its contract allows
 abbrev pub ReadTold : Type 0
-ReadTold = (u : Parameters) (pools : Pools) (cs : List Call) (h : PeripheralHandle) (n : ℕ) (r : List ℕ) → let w = run u pools cs .world in
-    let lent = lend n (w .pools .inputs) in
-    T (occupiedIn (run u pools cs .log) (h .slot)) → length lent ≡ w .unit .parameters .«input_pool»
-    → r ≡ pick (eqb (length lent) (w .unit .parameters .«input_pool»)) (inputImage (foundIn (w .unit) h) lent) []
-    → r ≡ imageOf (slotLog (h .slot) (run u pools cs .log))
+ReadTold = (u : Parameters) (pools : Pools) (cs : List Call) (w : World) (l : List Entry) → Made u pools cs w l
+    → (h : PeripheralHandle) (lent bytes : List ℕ) → Handed w h lent bytes → inputNumber (w .unit) h lent ≡ 0 → bytes ≡ imageOf (slotLog (h .slot) l)
 
 -- ---- ASKED: at a turn that reaches it without reporting it Offline, a balance is asked for data exactly when no diagnosis is due and, since its last fall,
 -- the log holds acknowledged parameters, later acknowledged configuration, later a clean diagnosis with no "SAP not enabled" after it
