@@ -13,3 +13,4 @@ pub mod Fields
 pub mod Lines
 pub mod AnswerLines
 pub mod Dump
+pub mod Driver

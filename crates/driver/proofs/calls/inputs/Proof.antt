@@ -1,0 +1,16 @@
+-- `inputs` meets its contract: the accessor's own, on the lent front.
+use borrow.Author.Needs.{needs}
+use Rattle.driver.proofs.calls.inputs.Statement.{statement}
+use Rattle.driver.proofs.calls.inputs.Tie as tie
+
+lent-requires : tie.Need-lent-requires
+lent-requires c κs = search needs
+
+pi-i-requires : tie.Need-pi-i-requires
+pi-i-requires c κs = search needs
+
+returns : tie.Need-returns
+returns c = simp (c .before .lent .ensures .0) at (c .pi-i .ensures)
+
+pub inputs-spec : {M : Type 1} → statement M
+inputs-spec = tie.close (tie.spec lent-requires pi-i-requires returns)

@@ -1,0 +1,4 @@
+pub mod Run
+pub mod Arrays
+pub mod Calls
+pub mod Pieces
