@@ -1,10 +1,12 @@
 -- Any two results that a contract of `driver` allows coincide: a statement for each public function.
 -- The idea: a contract is an equation for the answer and for each array, or for the lent front of an array and for the rest, which make the whole.
-use mathlib.Core.Path.{_≡_, sym, ap, _∙_}
+use mathlib.Core.Path.{_≡_, sym, ap, _∙_, refl}
 use mathlib.Core.List.{List, _++_}
 use Prim.Native.Nat.{ℕ}
 use lib.ListN.{take, drop, take-append-drop}
 use denote.Ref.{now}
+use Rattle.parts.specs.Parts.{SamePart}
+use Rattle.parts.proofs.Laws.{itself-same}
 use Rattle.coincide.specs.Coincide.{Coincide}
 use Rattle.coincide.proofs.Law.{same}
 use Rattle.driver.proofs.run.Run.empty.Kinds as K·run-Run-empty
@@ -87,8 +89,8 @@ run-call-made κs a z y e f p q = same p q
 pub arrays-front : Coincide 0 K·arrays-front.ps K·arrays-front.r R·arrays-front.Learnt (λ κs z y e f. z ≡ y)
 arrays-front κs a z y e f p q = same p q
 
-pub arrays-lent : Coincide 1 K·arrays-lent.ps K·arrays-lent.r R·arrays-lent.Learnt (λ κs z y e f. (now z ≡ now y) × (z .ptr .0 ≡ y .ptr .0) × (z .ptr .1 ≡ y .ptr .1))
-arrays-lent κs a z y e f p q = (same (p .0) (q .0), same (p .1 .0) (q .1 .0), same (p .1 .1) (q .1 .1))
+pub arrays-lent : Coincide 1 K·arrays-lent.ps K·arrays-lent.r R·arrays-lent.Learnt (λ κs z y e f. SamePart z y)
+arrays-lent κs a z y e f p q = itself-same p q
 
 pub arrays-fill : Coincide 1 K·arrays-fill.ps K·arrays-fill.r R·arrays-fill.Learnt (λ κs z y e f. now (e .0) ≡ now (f .0))
 arrays-fill κs a z y e f p q = same p q
@@ -111,14 +113,14 @@ calls-fill-payload κs a z y e f p q = (same (p .bytes) (q .bytes), same (p .ent
 pub calls-clear : Coincide 6 K·calls-clear.ps K·calls-clear.r R·calls-clear.Learnt (λ κs z y e f. (now (e .0) ≡ now (f .0)) × (now (e .1 .0) ≡ now (f .1 .0)) × (now (e .1 .1 .0) ≡ now (f .1 .1 .0)) × (now (e .1 .1 .1 .0) ≡ now (f .1 .1 .1 .0)) × (now (e .1 .1 .1 .1 .0) ≡ now (f .1 .1 .1 .1 .0)) × (now (e .1 .1 .1 .1 .1 .0) ≡ now (f .1 .1 .1 .1 .1 .0)))
 calls-clear κs a z y e f p q = (same (p .0 .setupPool) (q .0 .setupPool), same (p .0 .inputPool) (q .0 .inputPool), same (p .0 .outputPool) (q .0 .outputPool), same (p .0 .diagPool) (q .0 .diagPool), same (p .1 .0) (q .1 .0), same (p .1 .1) (q .1 .1))
 
-pub calls-add : Coincide 6 K·calls-add.ps K·calls-add.r R·calls-add.Learnt (λ κs z y e f. (z .refusal ≡ y .refusal) × (z .handle ≡ y .handle) × (z .master ≡ y .master) × (now (e .1 .1 .1 .1 .0) ≡ now (f .1 .1 .1 .1 .0)) × (now (e .1 .1 .1 .1 .1 .0) ≡ now (f .1 .1 .1 .1 .1 .0)) × (now (e .1 .1 .1 .1 .1 .1 .0) ≡ now (f .1 .1 .1 .1 .1 .1 .0)) × (now (e .1 .1 .1 .1 .1 .1 .1 .0) ≡ now (f .1 .1 .1 .1 .1 .1 .1 .0)))
-calls-add κs a z y e f p q = (same (p .call .refusal) (q .call .refusal), same (p .call .handle) (q .call .handle), same (p .call .after) (q .call .after), whole (a .0 .lent .setup) (same (p .call .setupPool) (q .call .setupPool)) (same (p .setupPool) (q .setupPool)), whole (a .0 .lent .inputs) (same (p .call .inputPool) (q .call .inputPool)) (same (p .inputPool) (q .inputPool)), whole (a .0 .lent .outputs) (same (p .call .outputPool) (q .call .outputPool)) (same (p .outputPool) (q .outputPool)), whole (a .0 .lent .diags) (same (p .call .diagPool) (q .call .diagPool)) (same (p .diagPool) (q .diagPool)))
+pub calls-add : Coincide 6 K·calls-add.ps K·calls-add.r R·calls-add.Learnt (λ κs z y e f. (z ≡ y) × (now (e .1 .1 .1 .1 .0) ≡ now (f .1 .1 .1 .1 .0)) × (now (e .1 .1 .1 .1 .1 .0) ≡ now (f .1 .1 .1 .1 .1 .0)) × (now (e .1 .1 .1 .1 .1 .1 .0) ≡ now (f .1 .1 .1 .1 .1 .1 .0)) × (now (e .1 .1 .1 .1 .1 .1 .1 .0) ≡ now (f .1 .1 .1 .1 .1 .1 .1 .0)))
+calls-add κs a z y e f p q = (rw (same (p .call .refusal) (q .call .refusal), same (p .call .handle) (q .call .handle), same (p .call .after) (q .call .after)) refl, whole (a .0 .lent .setup) (same (p .call .setupPool) (q .call .setupPool)) (same (p .setupPool) (q .setupPool)), whole (a .0 .lent .inputs) (same (p .call .inputPool) (q .call .inputPool)) (same (p .inputPool) (q .inputPool)), whole (a .0 .lent .outputs) (same (p .call .outputPool) (q .call .outputPool)) (same (p .outputPool) (q .outputPool)), whole (a .0 .lent .diags) (same (p .call .diagPool) (q .call .diagPool)) (same (p .diagPool) (q .diagPool)))
 
-pub calls-turn : Coincide 3 K·calls-turn.ps K·calls-turn.r R·calls-turn.Learnt (λ κs z y e f. (z .master ≡ y .master) × (z .answer ≡ y .answer) × (now (e .1 .1 .1 .1 .1 .0) ≡ now (f .1 .1 .1 .1 .1 .0)))
-calls-turn κs a z y e f p q = (same (p .call .after) (q .call .after), same (p .call .answer) (q .call .answer), whole (a .0 .lent .payload) (same (p .call .bytes) (q .call .bytes)) (same (p .payloadArray) (q .payloadArray)))
+pub calls-turn : Coincide 3 K·calls-turn.ps K·calls-turn.r R·calls-turn.Learnt (λ κs z y e f. (z ≡ y) × (now (e .1 .1 .1 .1 .1 .0) ≡ now (f .1 .1 .1 .1 .1 .0)))
+calls-turn κs a z y e f p q = (rw (same (p .call .after) (q .call .after), same (p .call .answer) (q .call .answer)) refl, whole (a .0 .lent .payload) (same (p .call .bytes) (q .call .bytes)) (same (p .payloadArray) (q .payloadArray)))
 
-pub calls-reply : Coincide 3 K·calls-reply.ps K·calls-reply.r R·calls-reply.Learnt (λ κs z y e f. (z .master ≡ y .master) × (z .answer ≡ y .answer) × (now (e .1 .1 .1 .1 .0) ≡ now (f .1 .1 .1 .1 .0)) × (now (e .1 .1 .1 .1 .1 .0) ≡ now (f .1 .1 .1 .1 .1 .0)))
-calls-reply κs a z y e f p q = (same (p .call .after) (q .call .after), same (p .call .answer) (q .call .answer), whole (a .0 .lent .inputs) (same (p .call .inputPool) (q .call .inputPool)) (same (p .inputPool) (q .inputPool)), whole (a .0 .lent .diags) (same (p .call .diagPool) (q .call .diagPool)) (same (p .diagPool) (q .diagPool)))
+pub calls-reply : Coincide 3 K·calls-reply.ps K·calls-reply.r R·calls-reply.Learnt (λ κs z y e f. (z ≡ y) × (now (e .1 .1 .1 .1 .0) ≡ now (f .1 .1 .1 .1 .0)) × (now (e .1 .1 .1 .1 .1 .0) ≡ now (f .1 .1 .1 .1 .1 .0)))
+calls-reply κs a z y e f p q = (rw (same (p .call .after) (q .call .after), same (p .call .answer) (q .call .answer)) refl, whole (a .0 .lent .inputs) (same (p .call .inputPool) (q .call .inputPool)) (same (p .inputPool) (q .inputPool)), whole (a .0 .lent .diags) (same (p .call .diagPool) (q .call .diagPool)) (same (p .diagPool) (q .diagPool)))
 
 pub calls-write : Coincide 2 K·calls-write.ps K·calls-write.r R·calls-write.Learnt (λ κs z y e f. (z ≡ y) × (now (e .1 .1 .1 .0) ≡ now (f .1 .1 .1 .0)))
 calls-write κs a z y e f p q = (same (p .call .answer) (q .call .answer), whole (a .0 .lent .outputs) (same (p .call .pool) (q .call .pool)) (same (p .outputPool) (q .outputPool)))
@@ -126,20 +128,20 @@ calls-write κs a z y e f p q = (same (p .call .answer) (q .call .answer), whole
 pub calls-inputs-refusal : Coincide 1 K·calls-inputs-refusal.ps K·calls-inputs-refusal.r R·calls-inputs-refusal.Learnt (λ κs z y e f. z ≡ y)
 calls-inputs-refusal κs a z y e f p q = same p q
 
-pub calls-inputs : Coincide 1 K·calls-inputs.ps K·calls-inputs.r R·calls-inputs.Learnt (λ κs z y e f. now z ≡ now y)
-calls-inputs κs a z y e f p q = same p q
+pub calls-inputs : Coincide 1 K·calls-inputs.ps K·calls-inputs.r R·calls-inputs.Learnt (λ κs z y e f. SamePart z y)
+calls-inputs κs a z y e f p q = itself-same p q
 
 pub calls-outputs-refusal : Coincide 1 K·calls-outputs-refusal.ps K·calls-outputs-refusal.r R·calls-outputs-refusal.Learnt (λ κs z y e f. z ≡ y)
 calls-outputs-refusal κs a z y e f p q = same p q
 
-pub calls-outputs : Coincide 1 K·calls-outputs.ps K·calls-outputs.r R·calls-outputs.Learnt (λ κs z y e f. now z ≡ now y)
-calls-outputs κs a z y e f p q = same p q
+pub calls-outputs : Coincide 1 K·calls-outputs.ps K·calls-outputs.r R·calls-outputs.Learnt (λ κs z y e f. SamePart z y)
+calls-outputs κs a z y e f p q = itself-same p q
 
 pub calls-diagnosis : Coincide 1 K·calls-diagnosis.ps K·calls-diagnosis.r R·calls-diagnosis.Learnt (λ κs z y e f. z ≡ y)
 calls-diagnosis κs a z y e f p q = same p q
 
-pub calls-extended : Coincide 1 K·calls-extended.ps K·calls-extended.r R·calls-extended.Learnt (λ κs z y e f. now z ≡ now y)
-calls-extended κs a z y e f p q = same p q
+pub calls-extended : Coincide 1 K·calls-extended.ps K·calls-extended.r R·calls-extended.Learnt (λ κs z y e f. SamePart z y)
+calls-extended κs a z y e f p q = itself-same p q
 
 pub calls-listing : Coincide 1 K·calls-listing.ps K·calls-listing.r R·calls-listing.Learnt (λ κs z y e f. (z ≡ y) × (now (e .1 .0) ≡ now (f .1 .0)))
 calls-listing κs a z y e f p q = (same (p .answer) (q .answer), same (p .bytes) (q .bytes))

@@ -11,7 +11,8 @@ use lib.ListN.{length, take, drop, getD, set, length-append, length-take, length
 use lib.Seq.{take-all, take-at, drop-at, drop-cons, set-at, append-snoc, length-take-le, drop-append-add}
 use lib.Dec.{leb, eqb}
 use borrow.Author.Tests.{le-leb, lt-leb, leb-true, leb-false, lt-ltb, le-ltb, eq-eqb, ne-eqb}
-use Rattle.parts.specs.Parts.{pick}
+use denote.Ref.{RefT}
+use Rattle.parts.specs.Parts.{pick, View, Itself}
 use Rattle.parts.proofs.Laws.{by-test}
 use Rattle.fields.specs.Write.{flagNumber}
 use Rattle.peripheral_set.specs.declared.Entry.{Entry}
@@ -36,6 +37,10 @@ front-le n k l e = omega (arith, short-le n (length l))
 
 pub front-size : (n k : ℕ) (l : List ℕ) → k ≡ shortOf n (length l) → k ≡ length (take k l)
 front-size n k l e = sym (length-take-le k l (front-le n k l e))
+
+-- a part of the lent front lies in the array where it lies in the front
+pub itself-in : {front : List ℕ} {v : View} {src lent r : RefT (List ℕ)} → Itself (record { start = 0; bytes = front }) src lent → Itself v lent r → Itself v src r
+itself-in p q = record { holds = q .holds; block = q .block ∙ p .block; offset = omega (arith, p .offset, q .offset) }
 
 -- left is what a call left of the first k of old
 pub lent-front : (n k : ℕ) (old left : List ℕ) → k ≡ shortOf n (length old) → length left ≡ length (take k old) → lend n (left ++ drop k old) ≡ left

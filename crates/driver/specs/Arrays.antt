@@ -6,7 +6,7 @@ use mathlib.Core.List.{List, [], _∷_, _++_}
 use lib.ListN.{length, take, drop, replicate}
 use lib.Seq.{sets}
 use lib.Dec.{eqb, leb, ltb}
-use Rattle.parts.specs.Parts.{pick}
+use Rattle.parts.specs.Parts.{pick, View}
 use Rattle.fields.specs.Write.{flagNumber, sumOf}
 use Rattle.peripheral_set.specs.declared.Entry.{Entry}
 use Rattle.peripheral_set.specs.Marks.{listed}
@@ -17,6 +17,9 @@ use Rattle.dump.specs.declared.Sums.{Sums}
 -- a call is lent the first so many bytes of an array, and no more than it has
 abbrev pub lend : ℕ → List ℕ → List ℕ
 lend n pool = take n pool
+
+abbrev pub lentView : ℕ → List ℕ → View
+lentView n pool = record { start = 0; bytes = lend n pool }
 
 abbrev pub shortOf : ℕ → ℕ → ℕ
 shortOf n len = pick (leb n len) n len

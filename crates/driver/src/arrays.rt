@@ -1,7 +1,8 @@
 // The arrays of a driver: what is lent of them, what P and F fill in, and the listing of H.
 ghost use mathlib.Core.Path.{_≡_};
+ghost use Rattle.parts.specs.Parts.{Itself};
 ghost use Rattle.fields.specs.Write.{flagNumber};
-ghost use Rattle.driver.specs.Arrays.{shortOf, lend, filled, entryByte, filledEntries, putEntry, Entered, sumsOf};
+ghost use Rattle.driver.specs.Arrays.{shortOf, lentView, filled, entryByte, filledEntries, putEntry, Entered, sumsOf};
 use dump::Sums;
 use fields::write;
 use master::unit::DpMaster;
@@ -20,8 +21,7 @@ pub fn front(n: u16, len: usize) -> usize
 
 // The first so many bytes, themselves and no copy of them.
 pub fn lent(src: &[u8], n: u16) -> &[u8]
-    ensures holds { λ r. ⌜ now r ≡ lend n (now (src .entry)) ⌝ }
-    ensures itself { λ r. ⌜ (r .ptr .0 ≡ src .entry .ptr .0) × (r .ptr .1 ≡ src .entry .ptr .1) ⌝ }
+    ensures { λ r. ⌜ Itself (lentView n (now (src .entry))) (src .entry) r ⌝ }
 {
     let k = front(n, src.len());
     &src[..k]

@@ -1,11 +1,7 @@
 // The calls, each lent the first so many bytes of the arrays that it takes.
 ghost use mathlib.Core.Path.{_≡_};
-ghost use mathlib.Core.List.{[]};
-ghost use lib.ListN.{length};
-ghost use lib.Dec.{eqb};
-ghost use Rattle.parts.specs.Parts.{pick};
-ghost use Rattle.peripheral.specs.Record.{inputImage, outputImage, lastExtended};
-ghost use Rattle.access.specs.Lookup.{foundIn, pooledRefusal, lastOf};
+ghost use Rattle.parts.specs.Parts.{Itself};
+ghost use Rattle.access.specs.Lookup.{foundIn, inputNumber, outputNumber, diagNumber, inputsSeen, outputsSeen, extendedSeen, lastOf};
 ghost use Rattle.driver.specs.Arrays.{lend, filled};
 ghost use Rattle.driver.specs.Calls.{PoolsFilled, PayloadFilled, LentAdd, LentTurn, LentReply, LentWrite, ListingDone};
 use crate::arrays::fill;
@@ -147,7 +143,7 @@ pub fn write(run: Run, handle: PeripheralHandle, bytes: &[u8], outputs: &mut [u8
 
 // The number of I.
 pub fn inputs_refusal(run: Run, handle: PeripheralHandle, inputs: &[u8]) -> u8
-    ensures { λ r. ⌜ r ≡ pooledRefusal (length (lend (run .lent .inputs) (now (inputs .entry)))) (run .unit .parameters .«input_pool») handle (run .unit .occupied) ⌝ }
+    ensures { λ r. ⌜ r ≡ inputNumber (run .unit) handle (lend (run .lent .inputs) (now (inputs .entry))) ⌝ }
 {
     let l = run.lent;
     access::images::pi_i_refusal(run.unit, handle, lent(inputs, l.inputs))
@@ -155,7 +151,7 @@ pub fn inputs_refusal(run: Run, handle: PeripheralHandle, inputs: &[u8]) -> u8
 
 // I.
 pub fn inputs(run: Run, handle: PeripheralHandle, inputs: &[u8]) -> &[u8]
-    ensures { λ r. ⌜ now r ≡ pick (eqb (length (lend (run .lent .inputs) (now (inputs .entry)))) (run .unit .parameters .«input_pool»)) (inputImage (foundIn (run .unit) handle) (lend (run .lent .inputs) (now (inputs .entry)))) [] ⌝ }
+    ensures { λ r. ⌜ Itself (inputsSeen (run .unit) handle (lend (run .lent .inputs) (now (inputs .entry)))) (inputs .entry) r ⌝ }
 {
     let l = run.lent;
     access::images::pi_i(run.unit, handle, lent(inputs, l.inputs))
@@ -163,7 +159,7 @@ pub fn inputs(run: Run, handle: PeripheralHandle, inputs: &[u8]) -> &[u8]
 
 // The number of O.
 pub fn outputs_refusal(run: Run, handle: PeripheralHandle, outputs: &[u8]) -> u8
-    ensures { λ r. ⌜ r ≡ pooledRefusal (length (lend (run .lent .outputs) (now (outputs .entry)))) (run .unit .parameters .«output_pool») handle (run .unit .occupied) ⌝ }
+    ensures { λ r. ⌜ r ≡ outputNumber (run .unit) handle (lend (run .lent .outputs) (now (outputs .entry))) ⌝ }
 {
     let l = run.lent;
     access::images::pi_q_refusal(run.unit, handle, lent(outputs, l.outputs))
@@ -171,7 +167,7 @@ pub fn outputs_refusal(run: Run, handle: PeripheralHandle, outputs: &[u8]) -> u8
 
 // O.
 pub fn outputs(run: Run, handle: PeripheralHandle, outputs: &[u8]) -> &[u8]
-    ensures { λ r. ⌜ now r ≡ pick (eqb (length (lend (run .lent .outputs) (now (outputs .entry)))) (run .unit .parameters .«output_pool»)) (outputImage (foundIn (run .unit) handle) (lend (run .lent .outputs) (now (outputs .entry)))) [] ⌝ }
+    ensures { λ r. ⌜ Itself (outputsSeen (run .unit) handle (lend (run .lent .outputs) (now (outputs .entry)))) (outputs .entry) r ⌝ }
 {
     let l = run.lent;
     access::images::pi_q(run.unit, handle, lent(outputs, l.outputs))
@@ -179,7 +175,7 @@ pub fn outputs(run: Run, handle: PeripheralHandle, outputs: &[u8]) -> &[u8]
 
 // The numbers of G.
 pub fn diagnosis(run: Run, handle: PeripheralHandle, diags: &[u8]) -> LastDiagnosis
-    ensures { λ r. ⌜ r ≡ lastOf (pooledRefusal (length (lend (run .lent .diags) (now (diags .entry)))) (run .unit .parameters .«diag_pool») handle (run .unit .occupied)) (foundIn (run .unit) handle) ⌝ }
+    ensures { λ r. ⌜ r ≡ lastOf (diagNumber (run .unit) handle (lend (run .lent .diags) (now (diags .entry)))) (foundIn (run .unit) handle) ⌝ }
 {
     let l = run.lent;
     access::diagnosis::last_diagnostics(run.unit, handle, lent(diags, l.diags))
@@ -187,7 +183,7 @@ pub fn diagnosis(run: Run, handle: PeripheralHandle, diags: &[u8]) -> LastDiagno
 
 // The extended part of G.
 pub fn extended(run: Run, handle: PeripheralHandle, diags: &[u8]) -> &[u8]
-    ensures { λ r. ⌜ now r ≡ pick (eqb (length (lend (run .lent .diags) (now (diags .entry)))) (run .unit .parameters .«diag_pool»)) (lastExtended (foundIn (run .unit) handle) (lend (run .lent .diags) (now (diags .entry)))) [] ⌝ }
+    ensures { λ r. ⌜ Itself (extendedSeen (run .unit) handle (lend (run .lent .diags) (now (diags .entry)))) (diags .entry) r ⌝ }
 {
     let l = run.lent;
     access::diagnosis::extended_diagnostics(run.unit, handle, lent(diags, l.diags))

@@ -52,20 +52,20 @@ pub data Allowed (w : World) : Call → Outcome → Type 0 where
       → (lent : Lent) → w .unit ≡ a .0 → lend (lent .setup) (w .pools .setup) ≡ now (a .1 .1 .1 .1 .0) → lend (lent .inputs) (w .pools .inputs) ≡ now (a .1 .1 .1 .1 .1 .0)
       → lend (lent .outputs) (w .pools .outputs) ≡ now (a .1 .1 .1 .1 .1 .1 .0) → lend (lent .diags) (w .pools .diags) ≡ now (a .1 .1 .1 .1 .1 .1 .1 .0)
       → Allowed w (add (a .1 .0) (now (a .1 .1 .0)) (now (a .1 .1 .1 .0)) lent)
-        (record {
-          world =
-              record {
-                unit = z .master;
-                pools =
-                    record {
-                      setup = back (lent .setup) (now (e .1 .1 .1 .1 .0)) (w .pools .setup);
-                      inputs = back (lent .inputs) (now (e .1 .1 .1 .1 .1 .0)) (w .pools .inputs);
-                      outputs = back (lent .outputs) (now (e .1 .1 .1 .1 .1 .1 .0)) (w .pools .outputs);
-                      diags = back (lent .diags) (now (e .1 .1 .1 .1 .1 .1 .1 .0)) (w .pools .diags);
-                    };
-              };
-          answer = added (z .refusal) (z .handle);
-        })
+      (record {
+        world =
+            record {
+              unit = z .master;
+              pools =
+                  record {
+                    setup = back (lent .setup) (now (e .1 .1 .1 .1 .0)) (w .pools .setup);
+                    inputs = back (lent .inputs) (now (e .1 .1 .1 .1 .1 .0)) (w .pools .inputs);
+                    outputs = back (lent .outputs) (now (e .1 .1 .1 .1 .1 .1 .0)) (w .pools .outputs);
+                    diags = back (lent .diags) (now (e .1 .1 .1 .1 .1 .1 .1 .0)) (w .pools .diags);
+                  };
+            };
+        answer = added (z .refusal) (z .handle);
+      })
   by-enter-state : (κs : Lfts 0) (a : Dens κs K·enter.ps) (z : resT K·enter.r κs .Denot) (e : AtExit (endedOf 0 K·enter.ps K·enter.r) κs) → R·enter.Learnt κs a z e
       → w .unit ≡ a .0 → Allowed w (enter (a .1 .0)) (record { world = unitIs z w; answer = number 0 })
   by-enter-stop : (κs : Lfts 0) (a : Dens κs K·stop.ps) (z : resT K·stop.r κs .Denot) (e : AtExit (endedOf 0 K·stop.ps K·stop.r) κs) → R·stop.Learnt κs a z e
@@ -80,20 +80,20 @@ pub data Allowed (w : World) : Call → Outcome → Type 0 where
   by-receive-reply : (κs : Lfts 3) (a : Dens κs K·reply.ps) (z : resT K·reply.r κs .Denot) (e : AtExit (endedOf 3 K·reply.ps K·reply.r) κs) → R·reply.Learnt κs a z e
       → (ni nd : ℕ) → w .unit ≡ a .0 → lend ni (w .pools .inputs) ≡ now (a .1 .1 .1 .1 .0) → lend nd (w .pools .diags) ≡ now (a .1 .1 .1 .1 .1 .0)
       → Allowed w (reply (a .1 .0) (a .1 .1 .0) (now (a .1 .1 .1 .0)) ni nd)
-        (record {
-          world =
-              record {
-                unit = z .master;
-                pools =
-                    record {
-                      setup = w .pools .setup;
-                      inputs = back ni (now (e .1 .1 .1 .1 .0)) (w .pools .inputs);
-                      outputs = w .pools .outputs;
-                      diags = back nd (now (e .1 .1 .1 .1 .1 .0)) (w .pools .diags);
-                    };
-              };
-          answer = replied (z .answer);
-        })
+      (record {
+        world =
+            record {
+              unit = z .master;
+              pools =
+                  record {
+                    setup = w .pools .setup;
+                    inputs = back ni (now (e .1 .1 .1 .1 .0)) (w .pools .inputs);
+                    outputs = w .pools .outputs;
+                    diags = back nd (now (e .1 .1 .1 .1 .1 .0)) (w .pools .diags);
+                  };
+            };
+        answer = replied (z .answer);
+      })
   by-reset-address : (κs : Lfts 0) (a : Dens κs K·reset.ps) (z : resT K·reset.r κs .Denot) (e : AtExit (endedOf 0 K·reset.ps K·reset.r) κs) → R·reset.Learnt κs a z e
       → w .unit ≡ a .0 → Allowed w (reset (a .1 .0) (a .1 .1 .0)) (record { world = unitIs (z .master) w; answer = number (z .refusal) })
   by-request-diagnostics : (κs : Lfts 0) (a : Dens κs K·wish.ps) (z : resT K·wish.r κs .Denot) (e : AtExit (endedOf 0 K·wish.ps K·wish.r) κs) → R·wish.Learnt κs a z e

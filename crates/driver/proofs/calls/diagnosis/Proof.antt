@@ -10,7 +10,7 @@ last-diagnostics-requires : tie.Need-last-diagnostics-requires
 last-diagnostics-requires c κs = search needs
 
 returns : tie.Need-returns
-returns c = simp (c .before .lent .ensures .0) at (c .last-diagnostics .ensures)
+returns c = simp (c .before .lent .ensures .holds) at (c .last-diagnostics .ensures)
 
 pub diagnosis-spec : {M : Type 1} → statement M
 diagnosis-spec = tie.close (tie.spec lent-requires last-diagnostics-requires returns)

@@ -10,7 +10,7 @@ pi-i-refusal-requires : tie.Need-pi-i-refusal-requires
 pi-i-refusal-requires c κs = search needs
 
 returns : tie.Need-returns
-returns c = simp (c .before .lent .ensures .0) at (c .pi-i-refusal .ensures)
+returns c = simp (c .before .lent .ensures .holds) at (c .pi-i-refusal .ensures)
 
 pub inputs-refusal-spec : {M : Type 1} → statement M
 inputs-refusal-spec = tie.close (tie.spec lent-requires pi-i-refusal-requires returns)

@@ -1,4 +1,5 @@
 -- `outputs` meets its contract: the accessor's own, on the lent front.
+use Rattle.driver.proofs.Laws.{itself-in}
 use borrow.Author.Needs.{needs}
 use Rattle.driver.proofs.calls.outputs.Statement.{statement}
 use Rattle.driver.proofs.calls.outputs.Tie as tie
@@ -10,7 +11,7 @@ pi-q-requires : tie.Need-pi-q-requires
 pi-q-requires c κs = search needs
 
 returns : tie.Need-returns
-returns c = simp (c .before .lent .ensures .0) at (c .pi-q .ensures)
+returns c = itself-in (c .before .lent .ensures) (simp (c .before .lent .ensures .holds) at (c .pi-q .ensures))
 
 pub outputs-spec : {M : Type 1} → statement M
 outputs-spec = tie.close (tie.spec lent-requires pi-q-requires returns)

@@ -10,7 +10,7 @@ pi-q-refusal-requires : tie.Need-pi-q-refusal-requires
 pi-q-refusal-requires c κs = search needs
 
 returns : tie.Need-returns
-returns c = simp (c .before .lent .ensures .0) at (c .pi-q-refusal .ensures)
+returns c = simp (c .before .lent .ensures .holds) at (c .pi-q-refusal .ensures)
 
 pub outputs-refusal-spec : {M : Type 1} → statement M
 outputs-refusal-spec = tie.close (tie.spec lent-requires pi-q-refusal-requires returns)

@@ -38,7 +38,7 @@ returns c =
     let size : length left ≡ length (take (k .result) (a .payload .now)) = t .kept .1 .1 .1 .1 .1 .0 in
     record {
       call =
-          moved4 (λ s o b l. Turned (a .run .unit) (a .time) (a .high-prio-only) s o b l (t .result)) (c .before .before .before .before .before .lent .ensures .0) (c .before .before .before .before .lent2 .ensures .0)
+          moved4 (λ s o b l. Turned (a .run .unit) (a .time) (a .high-prio-only) s o b l (t .result)) (c .before .before .before .before .before .lent .ensures .holds) (c .before .before .before .before .lent2 .ensures .holds)
           (short-take n (k .result) (a .payload .now) (k .ensures)) (sym (lent-front n (k .result) (a .payload .now) left (k .ensures) size)) (t .ensures);
       payloadArray = lent-behind n (k .result) (a .payload .now) left (k .ensures) size;
     }
