@@ -1,7 +1,7 @@
 -- Each of the five wrong units is told from the promised one at a named input, by computation; which of them demand 3 admits, and which break a promise.
 -- The idea: read one number off both outcomes; where the numbers differ the outcomes do. Over an empty log no slot is occupied, so nothing is said of any.
 use mathlib.Core.Path.{_≡_, refl, sym, ap, _∙_}
-use mathlib.Core.Bool.{false, false≢true}
+use mathlib.Core.Bool.{true, false, false≢true}
 use mathlib.Core.List.{List, [], _∷_}
 use Prim.Native.Nat.{ℕ}
 use native.Mathlib.Omega.{arith}
@@ -92,20 +92,23 @@ nobody-reached a s h = rw (no-mark slots s) at h
 pub empty-admits : (f : World → Call → Outcome) (u : Parameters) (pools : Pools) (cs : List Call) → runBy f u pools cs .log ≡ [] → ImageAt f u pools cs × AskedAt f u pools cs
 empty-admits f u pools cs e = (λ s h. absurd (nobody s (rw e at h)), λ time high ns nq buf s r t. absurd (nobody-reached (turnOf (f (runBy f u pools cs .world) (turn time high ns nq buf) .answer)) s (rw e at r)))
 
--- the first has no other log
-refused : (c : Call) → accepted (plain 2 255 c) ≡ false
-refused (add a user config lent) = refl
-refused (enter o) = refl
-refused (turn time high ns nq buf) = refl
-refused (reply address t payload ni nd) = refl
-refused (reset h address) = refl
-refused (wish h) = refl
-refused (write h bytes nq) = refl
-refused (hand h bytes nq) = refl
+-- the first has no other log, and the second enters every call
+plain-number : (n h : ℕ) (c : Call) → refusal (plain n h c) ≡ n
+plain-number n h (add a user config lent) = refl
+plain-number n h (enter o) = refl
+plain-number n h (turn time high ns nq buf) = refl
+plain-number n h (reply address t payload ni nd) = refl
+plain-number n h (reset x address) = refl
+plain-number n h (wish x) = refl
+plain-number n h (write x bytes nq) = refl
+plain-number n h (hand x bytes nq) = refl
 
 no-log : (u : Parameters) (pools : Pools) (cs : List Call) → runBy refusesAll u pools cs .log ≡ []
 no-log u pools [] = refl
-no-log u pools (c ∷ cs) = rw (refused c) (no-log u pools cs)
+no-log u pools (c ∷ cs) = rw (plain-number 2 255 c) (no-log u pools cs)
+
+pub same-answer-done : (w : World) (c : Call) → accepted (sameAnswer w c .answer) ≡ true
+same-answer-done w c = rw (plain-number 0 0 c) refl
 
 pub refuses-all-admitted : ImageBy refusesAll × AskedBy refusesAll
 refuses-all-admitted = (λ u pools cs. empty-admits refusesAll u pools cs (no-log u pools cs) .0, λ u pools cs. empty-admits refusesAll u pools cs (no-log u pools cs) .1)
