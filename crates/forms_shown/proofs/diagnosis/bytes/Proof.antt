@@ -1,0 +1,55 @@
+-- `bytes` is safe and ends: the index stays below the length.
+use Prim.Native.Nat.{_≤_, _-_}
+use lib.ListN.{length}
+use borrow.Author.Needs.{needs}
+use Rattle.forms_shown.proofs.diagnosis.bytes.Statement.{statement}
+use Rattle.forms_shown.proofs.diagnosis.bytes.Tie as tie
+
+abbrev Inv-loop : tie.InvT-loop
+Inv-loop part i₀ t3 i = i ≤ length part
+
+abbrev μ-loop : tie.MeasureT-loop
+μ-loop part i₀ t3 i = length part - i
+
+loop-holds : tie.Need-loop-holds Inv-loop μ-loop
+loop-holds c = search needs
+
+slice-aggregate-say : tie.Need-slice-aggregate-say Inv-loop μ-loop
+slice-aggregate-say c = search needs
+
+shared-slice-read-wide : tie.Need-shared-slice-read-wide Inv-loop μ-loop
+shared-slice-read-wide c = search needs
+
+wide-requires : tie.Need-wide-requires Inv-loop μ-loop
+wide-requires c κs = search needs
+
+say-requires : tie.Need-say-requires Inv-loop μ-loop
+say-requires c κs = search needs
+
+add-i : tie.Need-add-i Inv-loop μ-loop
+add-i c = search needs
+
+loop-less : tie.Need-loop-less Inv-loop μ-loop
+loop-less c = search needs
+
+loop-again : tie.Need-loop-again Inv-loop μ-loop
+loop-again c = search needs
+
+returns : tie.Need-returns Inv-loop μ-loop
+returns c = search needs
+
+pub bytes-spec : {M : Type 1} → statement M
+bytes-spec =
+    tie.close
+    (tie.spec
+    Inv-loop
+    μ-loop
+    loop-holds
+    slice-aggregate-say
+    shared-slice-read-wide
+    wide-requires
+    say-requires
+    add-i
+    loop-less
+    loop-again
+    returns)
