@@ -16,7 +16,8 @@ pub struct Visit {
 }
 
 impl Peripheral {
-    // The visit hands the peripheral back: the turn stores it, and sends what it answers.
+    // The visit hands the peripheral back, and what it does.
+    // The record is written anew: a store into a copy of it costs the turn some 50 instructions more.
     pub fn visit(self, limit: u8) -> Visit
         ensures { λ r. ⌜ r ≡ visitOf limit self ⌝ }
     {
@@ -25,8 +26,14 @@ impl Peripheral {
             self.options.has_user_parameters,
             self.options.has_config,
         );
-        let mut p = self;
-        p.station = self.station.visited(what);
+        let station = self.station.visited(what);
+        let ranges = self.ranges;
+        let options = self.options;
+        let p = Peripheral {
+            station: station,
+            ranges: ranges,
+            options: options,
+        };
         Visit {
             peripheral: p,
             what: what,

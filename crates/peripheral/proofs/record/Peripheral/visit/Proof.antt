@@ -12,7 +12,7 @@ visited-requires c κs = search needs
 
 returns : tie.Need-returns
 returns c =
-    rw (c .visited .ensures, c .before .wish .ensures) refl
+    rw (c .before .before .visited .ensures, c .before .before .before .wish .ensures) refl
 
 pub visit-spec : {M : Type 1} → statement M
 visit-spec = tie.close (tie.spec wish-requires visited-requires returns)
