@@ -1,4 +1,6 @@
 // The balances of the bench: how each is set up, and what it answers.
+ghost use mathlib.Core.Path.{_≡_};
+ghost use Rattle.bench.specs.Balance.{unitParameters, balanceAdded, silent, said, saidTo, saidFrom, answerTo};
 use answers::turn::Transmission;
 use fdl::consts::Sap;
 use fdl::parameters::Parameters;
@@ -7,7 +9,9 @@ use master::add::Addition;
 use telegrams::options::PeripheralOptions;
 use telegrams::request::Request;
 
-pub fn parameters() -> Parameters {
+pub fn parameters() -> Parameters
+    ensures { λ r. ⌜ r ≡ unitParameters ⌝ }
+{
     Parameters {
         slot_time: 200,
         setup_pool: 16384,
@@ -23,7 +27,9 @@ pub fn parameters() -> Parameters {
     }
 }
 
-pub fn addition(address: u8) -> Addition {
+pub fn addition(address: u8) -> Addition
+    ensures { λ r. ⌜ r ≡ balanceAdded address ⌝ }
+{
     let options = PeripheralOptions {
         ident_number: 0x1234,
         max_tsdr: 0,
@@ -54,7 +60,9 @@ pub struct Answer {
     pub telegram: Telegram,
 }
 
-fn silence() -> Answer {
+fn silence() -> Answer
+    ensures { λ r. ⌜ r ≡ silent ⌝ }
+{
     Answer {
         answers: false,
         address: 0,
@@ -64,7 +72,9 @@ fn silence() -> Answer {
     }
 }
 
-fn told(address: u8, slot: u8, data: bool, telegram: Telegram) -> Answer {
+fn told(address: u8, slot: u8, data: bool, telegram: Telegram) -> Answer
+    ensures { λ r. ⌜ r ≡ said address slot «data» telegram ⌝ }
+{
     Answer {
         answers: true,
         address: address,
@@ -74,39 +84,52 @@ fn told(address: u8, slot: u8, data: bool, telegram: Telegram) -> Answer {
     }
 }
 
+// To a request of each kind.
+fn told_to(kind: Request, address: u8, slot: u8) -> Answer
+    ensures { λ r. ⌜ r ≡ saidTo kind address slot ⌝ }
+{
+    match kind {
+        Request::Diagnosis => {
+            let telegram = Telegram::Data {
+                dsap: Sap::At(62),
+                ssap: Sap::At(60),
+                status: 8,
+            };
+            told(address, slot, false, telegram)
+        }
+        Request::Parameters => told(address, slot, false, Telegram::ShortConfirmation),
+        Request::Configuration => told(address, slot, false, Telegram::ShortConfirmation),
+        Request::Data => {
+            let telegram = Telegram::Data {
+                dsap: Sap::Absent,
+                ssap: Sap::Absent,
+                status: 8,
+            };
+            told(address, slot, true, telegram)
+        }
+    }
+}
+
+// To a request, where the balance in that slot answers.
+fn told_from(all: bool, kind: Request, address: u8, slot: u8) -> Answer
+    ensures { λ r. ⌜ r ≡ saidFrom all kind address slot ⌝ }
+{
+    if all {
+        return told_to(kind, address, slot);
+    }
+    if slot == 0 {
+        return told_to(kind, address, slot);
+    }
+    silence()
+}
+
 // To what was sent; in the second mode only slot 0 answers.
-pub fn told_by(all: bool, t: Transmission) -> Answer {
+pub fn told_by(all: bool, t: Transmission) -> Answer
+    ensures { λ r. ⌜ r ≡ answerTo all t ⌝ }
+{
     match t {
         Transmission::Nothing => silence(),
         Transmission::Control(_) => silence(),
-        Transmission::Request { slot, kind, header } => {
-            if !all {
-                if slot != 0 {
-                    return silence();
-                }
-            }
-            match kind {
-                Request::Diagnosis => {
-                    let telegram = Telegram::Data {
-                        dsap: Sap::At(62),
-                        ssap: Sap::At(60),
-                        status: 8,
-                    };
-                    told(header.da, slot, false, telegram)
-                }
-                Request::Parameters => told(header.da, slot, false, Telegram::ShortConfirmation),
-                Request::Configuration => {
-                    told(header.da, slot, false, Telegram::ShortConfirmation)
-                }
-                Request::Data => {
-                    let telegram = Telegram::Data {
-                        dsap: Sap::Absent,
-                        ssap: Sap::Absent,
-                        status: 8,
-                    };
-                    told(header.da, slot, true, telegram)
-                }
-            }
-        }
+        Transmission::Request { slot, kind, header } => told_from(all, kind, header.da, slot),
     }
 }

@@ -1,10 +1,10 @@
 -- `looped` is safe and ends: the rounds are counted up. The loop's invariant: the lent slices keep their lengths.
 use mathlib.Core.Path.{_≡_}
 use native.Mathlib.Omega.{arith}
-use Prim.Native.Nat.{_-_, _≤_}
+use Prim.Native.Nat.{_-_}
 use lib.ListN.{length}
-use Rattle.bench.proofs.rounds.looped.Statement.{statement}
-use Rattle.bench.proofs.rounds.looped.Tie as tie
+use Rattle.bench.proofs.looped.Statement.{statement}
+use Rattle.bench.proofs.looped.Tie as tie
 
 abbrev Inv-loop : tie.InvT-loop
 Inv-loop all count setup inputs₀ outputs diags₀ buf₀ b₀ c₀ inputs diags buf b c = (length inputs ≡ length inputs₀) × (length diags ≡ length diags₀) × (length buf ≡ length buf₀)

@@ -1,10 +1,8 @@
 -- `images` is safe and ends: the balances are counted down.
-use mathlib.Core.Path.{_≡_, refl, _∙_}
-use Prim.Native.Nat.{_-_, _≤_}
+use Prim.Native.Nat.{_-_}
 use native.Mathlib.Omega.{arith}
-use lib.ListN.{length}
-use Rattle.bench.proofs.rounds.images.Statement.{statement}
-use Rattle.bench.proofs.rounds.images.Tie as tie
+use Rattle.bench.proofs.images.Statement.{statement}
+use Rattle.bench.proofs.images.Tie as tie
 
 abbrev Inv-loop : tie.InvT-loop
 Inv-loop unit h n inputs sum₀ slot₀ left₀ sum slot left = Unit {0}

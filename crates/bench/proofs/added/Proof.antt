@@ -1,10 +1,10 @@
 -- `added` is safe and ends: the balances are counted down. The loop's invariant: the lent slices keep their lengths.
 use mathlib.Core.Path.{_≡_}
 use native.Mathlib.Omega.{arith}
-use Prim.Native.Nat.{_-_, _≤_}
+use Prim.Native.Nat.{_-_}
 use lib.ListN.{length}
-use Rattle.bench.proofs.rounds.added.Statement.{statement}
-use Rattle.bench.proofs.rounds.added.Tie as tie
+use Rattle.bench.proofs.added.Statement.{statement}
+use Rattle.bench.proofs.added.Tie as tie
 
 abbrev Inv-loop : tie.InvT-loop
 Inv-loop n user config setup₀ inputs₀ outputs₀ diags₀ m₀ address₀ left₀ setup inputs outputs diags m address left = (length setup ≡ length setup₀) × (length inputs ≡ length inputs₀) × (length outputs ≡ length outputs₀) × (length diags ≡ length diags₀)
