@@ -2,13 +2,14 @@
 -- The idea: the handle's number is 0 exactly where its slot is occupied, and a view's length is its range's where that lies in the pool.
 use mathlib.Core.Path.{_≡_, refl, sym, ap, _∙_}
 use mathlib.Core.Bool.{Bool, true, false}
-use mathlib.Core.List.{List}
+use mathlib.Core.List.{List, []}
 use Prim.Native.Nat.{ℕ, _+_}
 use native.Mathlib.Omega.{arith}
 use lib.ListN.{length}
 use lib.Dec.{leb, eqb}
 use borrow.Author.Tests.{eq-eqb, ne-eqb}
-use Rattle.parts.specs.Parts.{pick, inside, viewAt, putIn}
+use denote.Ref.{RefT}
+use Rattle.parts.specs.Parts.{pick, inside, View, viewAt, Itself, putIn}
 use Rattle.parts.proofs.Laws.{length-part, inside-leb}
 use Rattle.peripheral.specs.declared.record.Peripheral.{Peripheral}
 use Rattle.peripheral.specs.Record.{blank}
@@ -19,7 +20,7 @@ use Rattle.master.specs.declared.unit.DpMaster.{DpMaster}
 use Rattle.master.specs.Unit.{balanceAt}
 use Rattle.access.specs.declared.images.ImageRange.{ImageRange}
 use Rattle.access.specs.declared.lookup.Found.{Found}
-use Rattle.access.specs.Lookup.{foundIn, outputNumber, rangeOf, writeRefusal, Wrote}
+use Rattle.access.specs.Lookup.{foundIn, outputNumber, viewOf, rangeOf, writeRefusal, Wrote}
 
 occupied-by : (b : Bool) → _≡_ {A = ℕ} (pick b 0 4) 0 → b ≡ true
 occupied-by true e = refl
@@ -28,6 +29,14 @@ occupied-by false e = absurd (omega arith)
 empty-by : (b : Bool) → (_≡_ {A = ℕ} (pick b 0 4) 0 → ⊥) → b ≡ false
 empty-by true h = absurd (h refl)
 empty-by false h = refl
+
+-- a view by its number, which was answered as k
+module _ (n k : ℕ) (v : View) (src r : RefT (List ℕ)) (e : k ≡ n) where
+  pub unseen : (k ≡ 0 → ⊥) → Itself (record { start = 0; bytes = [] }) src r → Itself (viewOf n v) src r
+  unseen z i = rw (← e, ne-eqb k 0 z) i
+
+  pub seen : k ≡ 0 → Itself v src r → Itself (viewOf n v) src r
+  seen z i = rw (← e, z) i
 
 -- where a view lies that is not refused: at its range, which was read as a and n, or at the front
 module _ (at len : ℕ) (l : List ℕ) (a n : ℕ) (ea : a ≡ at) (en : n ≡ len) (r : Bool) (e : r ≡ leb (a + n) (length l)) where

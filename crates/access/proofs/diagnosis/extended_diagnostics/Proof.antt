@@ -1,8 +1,8 @@
 -- `extended_diagnostics` meets its contract: refused, an empty part at the front; else the balance's own.
 use mathlib.Core.Path.{refl}
 use native.Mathlib.Omega.{arith}
-use borrow.Author.Tests.{ne-eqb}
 use borrow.Author.Needs.{needs}
+use Rattle.access.proofs.Facts.{unseen, seen}
 use Rattle.access.proofs.diagnosis.extended_diagnostics.Statement.{statement}
 use Rattle.access.proofs.diagnosis.extended_diagnostics.Tie as tie
 
@@ -20,7 +20,7 @@ part-result-end c = search needs
 
 returns : tie.Need-returns
 returns c =
-    rw (← c .before .before .pooled-refusal .ensures, ne-eqb _ _ (c .before .if1 .taken)) (record { holds = refl; block = refl; offset = omega arith })
+    unseen _ _ _ _ _ (c .before .before .pooled-refusal .ensures) (c .before .if1 .taken) (record { holds = refl; block = refl; offset = omega arith })
 
 find-requires : tie.Need-find-requires
 find-requires c κs = search needs
@@ -30,7 +30,7 @@ extended-diagnostics-requires c κs = search needs
 
 returns-2 : tie.Need-returns-2
 returns-2 c =
-    rw (← c .before .before .before .before .pooled-refusal .ensures, c .before .before .before .if1 .left) (rw (c .before .before .find .ensures) at (c .extended-diagnostics .ensures))
+    seen _ _ _ _ _ (c .before .before .before .before .pooled-refusal .ensures) (c .before .before .before .if1 .left) (rw (c .before .before .find .ensures) at (c .extended-diagnostics .ensures))
 
 pub extended-diagnostics-spec : {M : Type 1} → statement M
 extended-diagnostics-spec =
