@@ -3,12 +3,8 @@
 use Prim.Native.Nat.{_≤_, _-_}
 use native.Mathlib.Omega.{arith}
 use borrow.Author.Needs.{needs}
-use Rattle.cases.proofs.sixteen.add_after.Statement.{statement}
-use Rattle.cases.proofs.sixteen.add_after.Tie as tie
-use Rattle.cases.proofs.sixteen.add_after.Reads as reads
-use Rattle.cases.proofs.sixteen.add_after.Lts as lts
-use Rattle.cases.proofs.bench.empty.Reads as empty-reads
-use Rattle.cases.proofs.sixteen.add_plain.Reads as add-plain-reads
+use Rattle.cases.proofs.add_after.Statement.{statement}
+use Rattle.cases.proofs.add_after.Tie as tie
 
 abbrev Inv-loop : tie.InvT-loop
 Inv-loop count b₀ i₀ b i = i ≤ count
