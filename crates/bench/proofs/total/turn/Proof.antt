@@ -49,7 +49,7 @@ sent-requires c κs = search needs
 
 returns : tie.Need-returns
 unfolding sumFrom turnNumbers
-returns c = simp (c .sent .ensures, c .before .part .ensures .0, c .before .before .mix6 .ensures, c .before .before .before .low .ensures, c .before .before .before .before .mix5 .ensures, c .before .before .before .before .before .w83 .ensures, c .before .before .before .before .before .before .mix4 .ensures, c .before .before .before .before .before .before .before .w82 .ensures, c .before .before .before .before .before .before .before .before .number .ensures, c .before .before .before .before .before .before .before .before .before .mix3 .ensures, c .before .before .before .before .before .before .before .before .before .before .mix2 .ensures, c .before .before .before .before .before .before .before .before .before .before .before .one .ensures, c .before .before .before .before .before .before .before .before .before .before .before .before .mix .ensures, c .before .before .before .before .before .before .before .before .before .before .before .before .before .w8 .ensures)
+returns c = simp (c .sent .ensures, c .before .part .ensures .holds, c .before .before .mix6 .ensures, c .before .before .before .low .ensures, c .before .before .before .before .mix5 .ensures, c .before .before .before .before .before .w83 .ensures, c .before .before .before .before .before .before .mix4 .ensures, c .before .before .before .before .before .before .before .w82 .ensures, c .before .before .before .before .before .before .before .before .number .ensures, c .before .before .before .before .before .before .before .before .before .mix3 .ensures, c .before .before .before .before .before .before .before .before .before .before .mix2 .ensures, c .before .before .before .before .before .before .before .before .before .before .before .one .ensures, c .before .before .before .before .before .before .before .before .before .before .before .before .mix .ensures, c .before .before .before .before .before .before .before .before .before .before .before .before .before .w8 .ensures)
 
 pub turn-spec : {M : Type 1} → statement M
 turn-spec =
