@@ -65,15 +65,15 @@ use Rattle.forms.proofs.listing.iter.Symbol.{name as #forms·listing·iter}
 use Rattle.forms.proofs.listing.iter.Met as iter-thm
 use Rattle.forms_shown.proofs.Cells.{far, cut, mend}
 use Rattle.forms_shown.proofs.Silent.{silent}
-use Rattle.forms_shown.proofs.listing.listed.Key.{name as key}
-use Rattle.forms_shown.proofs.listing.listed as f
-use Rattle.forms_shown.proofs.listing.listed.Statement as stated
-use Rattle.forms_shown.proofs.listing.listed.Code as code
-use Rattle.forms_shown.proofs.listing.tell as tell
-use Rattle.forms_shown.proofs.listing.tell.Symbol as tell-def
-use Rattle.forms_shown.proofs.listing.tell.Symbol.{name as #forms-shown·listing·tell}
-use Rattle.forms_shown.proofs.listing.tell.Met as tell-thm
-use Rattle.forms_shown.proofs.listing.listed.Code.Mir as parts
+use Rattle.forms_shown.proofs.listed.Key.{name as key}
+use Rattle.forms_shown.proofs.listed as f
+use Rattle.forms_shown.proofs.listed.Statement as stated
+use Rattle.forms_shown.proofs.listed.Code as code
+use Rattle.forms_shown.proofs.tell_list as tell
+use Rattle.forms_shown.proofs.tell_list.Symbol as tell-def
+use Rattle.forms_shown.proofs.tell_list.Symbol.{name as #forms-shown·tell-list}
+use Rattle.forms_shown.proofs.tell_list.Met as tell-thm
+use Rattle.forms_shown.proofs.listed.Code.Mir as parts
 
 abbrev Arg : Type 0
 Arg = DpMaster × (List Entry × (ℕ × Unit {0}))
@@ -191,7 +191,7 @@ module _ {M : Type 1} (𝓤 : URA M) (H : Heap 𝓤) (A : Atoms 𝓤) (W : Given
   typed : (ys : List Entry) → Is (Array T.the-row 32) ys (av ys ∷ []) → Typed (Array T.the-row 32 .mir) (av ys ∷ [])
   typed ys g = array-typed T.the-row (LL.lawful T.the-type T′.the-laws 𝓤 H A W .typed) 32 ys (av ys ∷ []) g
 
-  module _ (C : Calls 𝓤 H) (Λ : Loops 𝓤 H) (fm : FmC 𝓤 H (W .laws) C) (known : Triple 𝓤 (C #forms·listing·iter) (Iter 𝓤 H A mem″ run)) (known-tell : Triple 𝓤 (C #forms-shown·listing·tell) (Tell 𝓤 H A mem″ run)) where
+  module _ (C : Calls 𝓤 H) (Λ : Loops 𝓤 H) (fm : FmC 𝓤 H (W .laws) C) (known : Triple 𝓤 (C #forms·listing·iter) (Iter 𝓤 H A mem″ run)) (known-tell : Triple 𝓤 (C #forms-shown·tell-list) (Tell 𝓤 H A mem″ run)) where
     walk : ent 𝓤 (onEntry 𝓤 H A f.signature tt tt a vals) (WpFn 𝓤 H C Λ code.function (S′.lowered m ∷ av xs ∷ vint w64 room ∷ []) Post)
     walk =
         qed W (‵ ftrue ∷ ‵ (owns (S.the-row ∷ Array T.the-row 32 ∷ usize ∷ []) a vals) ∷ []) ∵ enter ! C Λ code.function (S′.lowered m ∷ av xs ∷ vint w64 room ∷ []) _ $
@@ -238,7 +238,7 @@ module _ {M : Type 1} (𝓤 : URA M) (H : Heap 𝓤) (A : Atoms 𝓤) (W : Given
         keep ! (27 ∷ 28 ∷ 25 ∷ 26 ∷ 23 ∷ 24 ∷ 21 ∷ 22 ∷ 1 ∷ 20 ∷ 18 ∷ 19 ∷ 16 ∷ 17 ∷ 14 ∷ 15 ∷ 12 ∷ 13 ∷ 10 ∷ 11 ∷ 8 ∷ 9 ∷ 6 ∷ 7 ∷ 0 ∷ []) $
         free1 ! $ free1 ! $ free1 ! $ free1 ! $ free1 ! $ free1 ! $ free1 ! $ free1 ! $ free1 ! $ free1 ! $ free1 ! $ free1 ! $ free0 ! $ by ! (exits r u))))))))))))))))))))))))
 
-module _ {M : Type 1} (𝓤 : URA M) (H : Heap 𝓤) (A : Atoms 𝓤) (W : Given 𝓤 H A) (mem″ : Memory → SProp 𝓤) (run : Routine → Fun 𝓤) (𝓣 : Tables 𝓤 H) (known : Triple 𝓤 (𝓣 .C #forms·listing·iter) (Iter 𝓤 H A mem″ run)) (known-tell : Triple 𝓤 (𝓣 .C #forms-shown·listing·tell) (Tell 𝓤 H A mem″ run)) where
+module _ {M : Type 1} (𝓤 : URA M) (H : Heap 𝓤) (A : Atoms 𝓤) (W : Given 𝓤 H A) (mem″ : Memory → SProp 𝓤) (run : Routine → Fun 𝓤) (𝓣 : Tables 𝓤 H) (known : Triple 𝓤 (𝓣 .C #forms·listing·iter) (Iter 𝓤 H A mem″ run)) (known-tell : Triple 𝓤 (𝓣 .C #forms-shown·tell-list) (Tell 𝓤 H A mem″ run)) where
   listed-walks : Walks 𝓤 H A f.ended stayed (WpFn 𝓤 H (𝓣 .C) (𝓣 .Λ) code.function) (f.clauses 𝓤 H A mem″ run)
   listed-walks = walked 𝓤 H A f.ended stayed (f.clauses 𝓤 H A mem″ run) (WpFn 𝓤 H (𝓣 .C) (𝓣 .Λ) code.function)
       (λ κs. ((λ d. S′.lowered d ∷ []), (spelled, (uint-vals w64, tt)))) (λ κs. (S′.lowers .val-is, (array-tells T.the-row (LL.vals T.the-type T′.the-laws) (LL.tells T.the-type T′.the-laws) 32, (uint-tells w64, tt))))
@@ -255,4 +255,4 @@ listed-spec 𝓤 H 𝓜 𝓖 𝓡 =
     (tables 𝓤 H 𝓜 𝓡 code.env .C) (tables 𝓤 H 𝓜 𝓡 code.env .Λ) key code.function (code.unfolded 𝓤 H 𝓜 𝓡)
     (listed-meets 𝓤 H (𝓖 .A) (givenOf 𝓤 H 𝓜 𝓖) (𝓜 .mem) (𝓡 .run) (tablesOf 𝓤 H 𝓜 (tables 𝓤 H 𝓜 𝓡 code.env))
     (cited 𝓤 H (Iter 𝓤 H (𝓖 .A) (𝓜 .mem) (𝓡 .run)) 𝓜 𝓡 code.env #forms·listing·iter iter-def.routine code.calls-forms·listing·iter (iter-thm.met 𝓤 H 𝓜 𝓖 𝓡))
-    (cited 𝓤 H (Tell 𝓤 H (𝓖 .A) (𝓜 .mem) (𝓡 .run)) 𝓜 𝓡 code.env #forms-shown·listing·tell tell-def.routine code.calls-forms-shown·listing·tell (tell-thm.met 𝓤 H 𝓜 𝓖 𝓡)))
+    (cited 𝓤 H (Tell 𝓤 H (𝓖 .A) (𝓜 .mem) (𝓡 .run)) 𝓜 𝓡 code.env #forms-shown·tell-list tell-def.routine code.calls-forms-shown·tell-list (tell-thm.met 𝓤 H 𝓜 𝓖 𝓡)))

@@ -58,15 +58,15 @@ use Rattle.forms.proofs.diagnosis.extended as part
 use Rattle.forms.proofs.diagnosis.extended.Symbol as part-def
 use Rattle.forms.proofs.diagnosis.extended.Symbol.{name as #forms·diagnosis·extended}
 use Rattle.forms.proofs.diagnosis.extended.Met as part-thm
-use Rattle.forms_shown.proofs.diagnosis.tell as tell
-use Rattle.forms_shown.proofs.diagnosis.tell.Symbol as tell-def
-use Rattle.forms_shown.proofs.diagnosis.tell.Symbol.{name as #forms-shown·diagnosis·tell}
-use Rattle.forms_shown.proofs.diagnosis.tell.Met as tell-thm
-use Rattle.forms_shown.proofs.diagnosis.show.Key.{name as #forms-shown·diagnosis·show}
-use Rattle.forms_shown.proofs.diagnosis.show as f
-use Rattle.forms_shown.proofs.diagnosis.show.Statement as stated
-use Rattle.forms_shown.proofs.diagnosis.show.Code as code
-use Rattle.forms_shown.proofs.diagnosis.show.Code.Mir as parts
+use Rattle.forms_shown.proofs.tell_record as tell
+use Rattle.forms_shown.proofs.tell_record.Symbol as tell-def
+use Rattle.forms_shown.proofs.tell_record.Symbol.{name as #forms-shown·tell-record}
+use Rattle.forms_shown.proofs.tell_record.Met as tell-thm
+use Rattle.forms_shown.proofs.show.Key.{name as #forms-shown·show}
+use Rattle.forms_shown.proofs.show as f
+use Rattle.forms_shown.proofs.show.Statement as stated
+use Rattle.forms_shown.proofs.show.Code as code
+use Rattle.forms_shown.proofs.show.Code.Mir as parts
 use Rattle.forms_shown.proofs.Silent.{silent}
 
 abbrev Arg : Type 0
@@ -176,7 +176,7 @@ module _ {M : Type 1} (𝓤 : URA M) (H : Heap 𝓤) (A : Atoms 𝓤) (W : Given
         move ! (1 ∷ []) $ frame ! $ nothing ! $ move ! (2 ∷ 0 ∷ []) $ fjoin ! $ owned ! P.the-row (Is P.the-row) (LL.makes P.the-type P′.the-plain 𝓤 H A) h _ gh $ fjoin ! $
         owned ! S.the-row (Is S.the-row) (LL.makes S.the-type S′.the-plain 𝓤 H A) m _ gm $ fjoin ! $ frame ! $ done !
 
-    module _ (C : Calls 𝓤 H) (Λ : Loops 𝓤 H) (fm : FmC 𝓤 H (W .laws) C) (known-last : Triple 𝓤 (C #forms·diagnosis·last-diagnostics) (Last 𝓤 H A mem run)) (known-part : Triple 𝓤 (C #forms·diagnosis·extended) (Part 𝓤 H A mem run)) (known-tell : Triple 𝓤 (C #forms-shown·diagnosis·tell) (Tell 𝓤 H A mem run)) where
+    module _ (C : Calls 𝓤 H) (Λ : Loops 𝓤 H) (fm : FmC 𝓤 H (W .laws) C) (known-last : Triple 𝓤 (C #forms·diagnosis·last-diagnostics) (Last 𝓤 H A mem run)) (known-part : Triple 𝓤 (C #forms·diagnosis·extended) (Part 𝓤 H A mem run)) (known-tell : Triple 𝓤 (C #forms-shown·tell-record) (Tell 𝓤 H A mem run)) where
       walk : Is (ShrSlice (named 0) κ u8) s (at s ∷ []) → ent 𝓤 (onEntry 𝓤 H A f.signature (κ, tt) (q, tt) a vals) (WpFn 𝓤 H C Λ code.function (S′.lowered m ∷ P′.lowered h ∷ at s ∷ []) Post)
       walk p =
           qed W ((‵ (flft κ q) ⊛ ‵ ftrue) ∷ ‵ (owns (S.the-row ∷ P.the-row ∷ ShrSlice (named 0) κ u8 ∷ []) a vals) ∷ []) ∵ enter ! C Λ code.function (S′.lowered m ∷ P′.lowered h ∷ at s ∷ []) _ $
@@ -223,7 +223,7 @@ module _ {M : Type 1} (𝓤 : URA M) (H : Heap 𝓤) (A : Atoms 𝓤) (W : Given
           move ! (14 ∷ 15 ∷ []) $ free1 ! $ move ! (12 ∷ 13 ∷ []) $ free1 ! $ move ! (10 ∷ 11 ∷ []) $ free1 ! $ move ! (8 ∷ 9 ∷ []) $ free1 ! $ move ! (6 ∷ 7 ∷ []) $ free1 ! $ free0 ! $
           keep ! (0 ∷ 1 ∷ 2 ∷ []) $ by ! (exits r v)))))))))))))))))))))
 
-module _ {M : Type 1} (𝓤 : URA M) (H : Heap 𝓤) (A : Atoms 𝓤) (W : Given 𝓤 H A) (mem : Memory → SProp 𝓤) (run : Routine → Fun 𝓤) (𝓣 : Tables 𝓤 H) (known-last : Triple 𝓤 (𝓣 .C #forms·diagnosis·last-diagnostics) (Last 𝓤 H A mem run)) (known-part : Triple 𝓤 (𝓣 .C #forms·diagnosis·extended) (Part 𝓤 H A mem run)) (known-tell : Triple 𝓤 (𝓣 .C #forms-shown·diagnosis·tell) (Tell 𝓤 H A mem run)) where
+module _ {M : Type 1} (𝓤 : URA M) (H : Heap 𝓤) (A : Atoms 𝓤) (W : Given 𝓤 H A) (mem : Memory → SProp 𝓤) (run : Routine → Fun 𝓤) (𝓣 : Tables 𝓤 H) (known-last : Triple 𝓤 (𝓣 .C #forms·diagnosis·last-diagnostics) (Last 𝓤 H A mem run)) (known-part : Triple 𝓤 (𝓣 .C #forms·diagnosis·extended) (Part 𝓤 H A mem run)) (known-tell : Triple 𝓤 (𝓣 .C #forms-shown·tell-record) (Tell 𝓤 H A mem run)) where
   show-walks : Walks 𝓤 H A f.ended stayed (WpFn 𝓤 H (𝓣 .C) (𝓣 .Λ) code.function) (f.clauses 𝓤 H A mem run)
   show-walks = walked 𝓤 H A f.ended stayed (f.clauses 𝓤 H A mem run) (WpFn 𝓤 H (𝓣 .C) (𝓣 .Λ) code.function)
       (λ κs. ((λ d. S′.lowered d ∷ []), ((λ d. P′.lowered d ∷ []), (slice-vals, tt)))) (λ κs. (S′.lowers .val-is, (P′.lowers .val-is, (shr-slice-tells (named 0) (κs .0) u8, tt))))
@@ -237,8 +237,8 @@ pub show-spec : {M : Type 1} → stated.statement M
 unfolding code.routine tablesOf
 show-spec 𝓤 H 𝓜 𝓖 𝓡 =
     entered 𝓤 H (tripleOf 𝓤 H (𝓖 .A) f.signature (f.spec 𝓤 H (𝓖 .A) (𝓜 .mem) (𝓡 .run)))
-    (tables 𝓤 H 𝓜 𝓡 code.env .C) (tables 𝓤 H 𝓜 𝓡 code.env .Λ) #forms-shown·diagnosis·show code.function (code.unfolded 𝓤 H 𝓜 𝓡)
+    (tables 𝓤 H 𝓜 𝓡 code.env .C) (tables 𝓤 H 𝓜 𝓡 code.env .Λ) #forms-shown·show code.function (code.unfolded 𝓤 H 𝓜 𝓡)
     (show-meets 𝓤 H (𝓖 .A) (givenOf 𝓤 H 𝓜 𝓖) (𝓜 .mem) (𝓡 .run) (tablesOf 𝓤 H 𝓜 (tables 𝓤 H 𝓜 𝓡 code.env))
     (cited 𝓤 H (Last 𝓤 H (𝓖 .A) (𝓜 .mem) (𝓡 .run)) 𝓜 𝓡 code.env #forms·diagnosis·last-diagnostics last-def.routine code.calls-forms·diagnosis·last-diagnostics (last-thm.met 𝓤 H 𝓜 𝓖 𝓡))
     (cited 𝓤 H (Part 𝓤 H (𝓖 .A) (𝓜 .mem) (𝓡 .run)) 𝓜 𝓡 code.env #forms·diagnosis·extended part-def.routine code.calls-forms·diagnosis·extended (part-thm.met 𝓤 H 𝓜 𝓖 𝓡))
-    (cited 𝓤 H (Tell 𝓤 H (𝓖 .A) (𝓜 .mem) (𝓡 .run)) 𝓜 𝓡 code.env #forms-shown·diagnosis·tell tell-def.routine code.calls-forms-shown·diagnosis·tell (tell-thm.met 𝓤 H 𝓜 𝓖 𝓡)))
+    (cited 𝓤 H (Tell 𝓤 H (𝓖 .A) (𝓜 .mem) (𝓡 .run)) 𝓜 𝓡 code.env #forms-shown·tell-record tell-def.routine code.calls-forms-shown·tell-record (tell-thm.met 𝓤 H 𝓜 𝓖 𝓡)))

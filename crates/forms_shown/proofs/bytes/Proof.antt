@@ -2,8 +2,8 @@
 use Prim.Native.Nat.{_≤_, _-_}
 use lib.ListN.{length}
 use borrow.Author.Needs.{needs}
-use Rattle.forms_shown.proofs.diagnosis.bytes.Statement.{statement}
-use Rattle.forms_shown.proofs.diagnosis.bytes.Tie as tie
+use Rattle.forms_shown.proofs.bytes.Statement.{statement}
+use Rattle.forms_shown.proofs.bytes.Tie as tie
 
 abbrev Inv-loop : tie.InvT-loop
 Inv-loop part i₀ t3 i = i ≤ length part

@@ -1,8 +1,8 @@
 -- `rows` is safe and ends: the index stays below 32, and no more entries are unchanged than were passed.
 use Prim.Native.Nat.{_≤_, _-_}
 use borrow.Author.Needs.{needs}
-use Rattle.forms_shown.proofs.listing.rows.Statement.{statement}
-use Rattle.forms_shown.proofs.listing.rows.Tie as tie
+use Rattle.forms_shown.proofs.rows.Statement.{statement}
+use Rattle.forms_shown.proofs.rows.Tie as tie
 
 abbrev Inv-loop : tie.InvT-loop
 Inv-loop count list unchanged₀ i₀ t7 unchanged i = (i ≤ 32) × (unchanged ≤ i)
