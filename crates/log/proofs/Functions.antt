@@ -1,6 +1,6 @@
 -- Whatever the contracts of the functions allow is what `step` says, and so whatever was made is a `run`.
 -- The idea: what a caller learns from a contract is the relation of Ties.antt, at the arguments and at what the slices hold at entry and at exit; then one call after the other.
-use mathlib.Core.Path.{_≡_, refl, sym, _∙_, ap, subst}
+use mathlib.Core.Path.{_≡_, refl, sym, _∙_, ap}
 use Prim.Native.Nat.{ℕ, _+_}
 use native.Mathlib.Omega.{arith}
 use mathlib.Core.Bool.{Bool}
@@ -97,4 +97,4 @@ made-run _ _ _ _ _ (by-new κs a z e c pools) = ap (λ (d : Done). record { worl
 made-run _ _ _ _ _ (then u pools cs w l m c o s) = next-call (run u pools cs) w l c o (made-run u pools cs w l m) (allowed-step w c o s)
 
 pub read-told : ReadTold
-read-told u pools cs w l m h lent bytes r q = read-of w l h lent bytes (subst (λ (x : Run). Inv (x .world) (x .log)) (made-run u pools cs w l m) (inv-run u pools cs)) r q
+read-told u pools cs h lent bytes r q = read-of (run u pools cs .world) (run u pools cs .log) h lent bytes (inv-run u pools cs) r q

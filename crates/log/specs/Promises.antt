@@ -57,10 +57,10 @@ ImageBy f = (u : Parameters) (pools : Pools) (cs : List Call) → ImageAt f u po
 abbrev pub ImageTold : Type 0
 ImageTold = ImageBy step
 
--- and it is what `pi_i` hands out, where its number is 0: said of whatever was made, and of any result that its contract allows
+-- and it is what `pi_i` hands out, where its number is 0: said of any result that its contract allows
 abbrev pub ReadTold : Type 0
-ReadTold = (u : Parameters) (pools : Pools) (cs : List Call) (w : World) (l : List Entry) → Made u pools cs w l
-    → (h : PeripheralHandle) (lent bytes : List ℕ) → Handed w h lent bytes → inputNumber (w .unit) h lent ≡ 0 → bytes ≡ imageOf (slotLog (h .slot) l)
+ReadTold = (u : Parameters) (pools : Pools) (cs : List Call) (h : PeripheralHandle) (lent bytes : List ℕ) → let r = run u pools cs in
+    Handed (r .world) h lent bytes → inputNumber (r .world .unit) h lent ≡ 0 → bytes ≡ imageOf (slotLog (h .slot) (r .log))
 
 -- ---- ASKED: at a turn that reaches it without reporting it Offline, a balance is asked for data exactly when no diagnosis is due and, since its last fall,
 -- the log holds acknowledged parameters, later acknowledged configuration, later a clean diagnosis with no "SAP not enabled" after it
