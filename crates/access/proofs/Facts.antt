@@ -1,7 +1,7 @@
 -- A handle that is refused or not, where a view lies, and an output write.
 -- The idea: the handle's number is 0 exactly where its slot is occupied, and a view's length is its range's where that lies in the pool.
 use mathlib.Core.Path.{_≡_, refl, sym, ap, _∙_}
-use mathlib.Core.Bool.{Bool, true, false}
+use mathlib.Core.Bool.{Bool, true, false, cond}
 use mathlib.Core.List.{List, []}
 use Prim.Native.Nat.{ℕ, _+_}
 use native.Mathlib.Omega.{arith}
@@ -9,7 +9,7 @@ use lib.ListN.{length}
 use lib.Dec.{leb, eqb}
 use borrow.Author.Tests.{eq-eqb, ne-eqb}
 use denote.Ref.{RefT}
-use Rattle.parts.specs.Parts.{pick, inside, View, viewAt, Itself, putIn}
+use Rattle.parts.specs.Parts.{inside, View, viewAt, Itself, putIn}
 use Rattle.parts.proofs.Laws.{length-part, inside-leb}
 use Rattle.peripheral.specs.declared.record.Peripheral.{Peripheral}
 use Rattle.peripheral.specs.Record.{blank}
@@ -20,13 +20,13 @@ use Rattle.master.specs.declared.unit.DpMaster.{DpMaster}
 use Rattle.master.specs.Unit.{balanceAt}
 use Rattle.access.specs.declared.images.ImageRange.{ImageRange}
 use Rattle.access.specs.declared.lookup.Found.{Found}
-use Rattle.access.specs.Lookup.{foundIn, outputNumber, viewOf, rangeOf, writeRefusal, Wrote}
+use Rattle.access.specs.Lookup.{foundIn, outputNumber, viewOf, rangeOf, writeRefusal, OutputsWritten}
 
-occupied-by : (b : Bool) → _≡_ {A = ℕ} (pick b 0 4) 0 → b ≡ true
+occupied-by : (b : Bool) → _≡_ {A = ℕ} (cond b 0 4) 0 → b ≡ true
 occupied-by true e = refl
 occupied-by false e = absurd (omega arith)
 
-empty-by : (b : Bool) → (_≡_ {A = ℕ} (pick b 0 4) 0 → ⊥) → b ≡ false
+empty-by : (b : Bool) → (_≡_ {A = ℕ} (cond b 0 4) 0 → ⊥) → b ≡ false
 empty-by true h = absurd (h refl)
 empty-by false h = refl
 
@@ -68,20 +68,20 @@ module _ (m : DpMaster) (h : PeripheralHandle) where
     unfolding writeRefusal
     refused-by n en z = rw (← en, ne-eqb n 0 z) refl
 
-    pub write-refused : (n : ℕ) → n ≡ outputNumber m h outputs → (n ≡ 0 → ⊥) → Wrote m h bytes outputs outputs n
+    pub write-refused : (n : ℕ) → n ≡ outputNumber m h outputs → (n ≡ 0 → ⊥) → OutputsWritten m h bytes outputs outputs n
     write-refused n en z = let e = refused-by n en z in record { answer = sym e; pool = rw (e, ne-eqb n 0 z) refl }
 
     accepted : (n : ℕ) → n ≡ outputNumber m h outputs → n ≡ 0 → writeRefusal m h bytes outputs ≡ unless (eqb (length bytes) (foundIn m h .ranges .«output_len»)) 11 0
     unfolding writeRefusal
     accepted n en z = rw (← en, z) refl
 
-    pub write-other : (n : ℕ) → n ≡ outputNumber m h outputs → n ≡ 0 → (length bytes ≡ foundIn m h .ranges .«output_len» → ⊥) → Wrote m h bytes outputs outputs 11
+    pub write-other : (n : ℕ) → n ≡ outputNumber m h outputs → n ≡ 0 → (length bytes ≡ foundIn m h .ranges .«output_len» → ⊥) → OutputsWritten m h bytes outputs outputs 11
     write-other n en z d =
         let e : writeRefusal m h bytes outputs ≡ 11 = accepted n en z ∙ rw (ne-eqb _ _ d) refl in
         record { answer = sym e; pool = rw e refl }
 
     pub write-done : (n : ℕ) (out : List ℕ) → n ≡ outputNumber m h outputs → n ≡ 0 → length bytes ≡ foundIn m h .ranges .«output_len»
-        → out ≡ putIn (foundIn m h .ranges .outputs) (foundIn m h .ranges .«output_len») bytes outputs → Wrote m h bytes outputs out 0
+        → out ≡ putIn (foundIn m h .ranges .outputs) (foundIn m h .ranges .«output_len») bytes outputs → OutputsWritten m h bytes outputs out 0
     write-done n out en z q eo =
         let e : writeRefusal m h bytes outputs ≡ 0 = accepted n en z ∙ rw (eq-eqb _ _ q) refl in
         record { answer = sym e; pool = rw e eo }

@@ -2,12 +2,12 @@
 -- From 01, "Refusal numbers" (2, 4, 11, empty views), "The unit and its sizes" (the last diagnosis), the new form of `ManagedSlice` (the part itself, empty when refused) and "iter".
 use mathlib.Core.Path.{_≡_}
 use Prim.Native.Nat.{ℕ}
-use mathlib.Core.Bool.{Bool, true, false}
+use mathlib.Core.Bool.{Bool, true, false, cond}
 use mathlib.Core.List.{List, []}
 use lib.ListN.{length, getD}
 use lib.Dec.{eqb, ltb}
-use Rattle.parts.specs.Parts.{pick, putIn, View}
-use Rattle.telegrams.specs.Diagnosis.{noDiagnosis}
+use Rattle.parts.specs.Parts.{putIn, View}
+use Rattle.payloads.specs.Diagnosis.{noDiagnosis}
 use Rattle.station.specs.Record.{isRunning, lastDiagnosis}
 use Rattle.peripheral.specs.declared.record.Peripheral.{Peripheral}
 use Rattle.peripheral.specs.Record.{blank, inputView, outputView, extendedView}
@@ -22,7 +22,7 @@ use Rattle.access.specs.declared.images.ImageRange.{ImageRange}
 
 -- the balance of a handle; a blank record where the handle is refused
 unfoldable pub foundIn : DpMaster → PeripheralHandle → Peripheral
-foundIn m h = pick (isOccupied (m .occupied) (h .slot)) (balanceAt (m .peripherals) (h .slot)) blank
+foundIn m h = cond (isOccupied (m .occupied) (h .slot)) (balanceAt (m .peripherals) (h .slot)) blank
 
 -- a lent pool's length is not the one at creation; the handle's number
 abbrev pub pooledRefusal : ℕ → ℕ → PeripheralHandle → List Bool → ℕ
@@ -40,7 +40,7 @@ diagNumber m h diags = pooledRefusal (length diags) (m .parameters .«diag_pool�
 
 -- a view by its number: the part where it is 0, else nothing, at the front of the pool
 abbrev pub viewOf : ℕ → View → View
-viewOf n v = record { start = pick (eqb n 0) (v .start) 0; bytes = pick (eqb n 0) (v .bytes) [] }
+viewOf n v = record { start = cond (eqb n 0) (v .start) 0; bytes = cond (eqb n 0) (v .bytes) [] }
 
 -- the input image, the output image and the extended part of a handle's balance
 abbrev pub inputsSeen : DpMaster → PeripheralHandle → List ℕ → View
@@ -58,7 +58,7 @@ rangeOf n v = record { refusal = n; start = v .start; len = length (v .bytes) }
 
 -- before one is held, and when refused: none
 abbrev pub lastOf : ℕ → Peripheral → LastDiagnosis
-lastOf n p = record { refusal = n; value = pick (eqb n 0) (lastDiagnosis (p .station)) noDiagnosis }
+lastOf n p = record { refusal = n; value = cond (eqb n 0) (lastDiagnosis (p .station)) noDiagnosis }
 
 -- an output write: lent pool, handle, and a length that is not the image's
 unfoldable pub writeRefusal : DpMaster → PeripheralHandle → List ℕ → List ℕ → ℕ
@@ -66,14 +66,14 @@ writeRefusal m h bytes outputs =
     orElse (outputNumber m h outputs)
     (unless (eqb (length bytes) (foundIn m h .ranges .«output_len»)) 11 0)
 
-pub record Wrote (m : DpMaster) (h : PeripheralHandle) (bytes outputs out : List ℕ) (r : ℕ) : Type 0 where
+pub record OutputsWritten (m : DpMaster) (h : PeripheralHandle) (bytes outputs out : List ℕ) (r : ℕ) : Type 0 where
   pub answer : r ≡ writeRefusal m h bytes outputs
   pub pool : out
-      ≡ pick (eqb (writeRefusal m h bytes outputs) 0) (putIn (foundIn m h .ranges .outputs) (foundIn m h .ranges .«output_len») bytes outputs) outputs
+      ≡ cond (eqb (writeRefusal m h bytes outputs) 0) (putIn (foundIn m h .ranges .outputs) (foundIn m h .ranges .«output_len») bytes outputs) outputs
 
 -- one row of the listing; 255 where there is no such slot
 abbrev pub entryAt : DpMaster → ℕ → Entry
 entryAt m slot =
-    pick (ltb slot slots)
+    cond (ltb slot slots)
     (record { slot = slot; address = getD (m .peripherals) slot blank .station .address; running = isRunning (getD (m .peripherals) slot blank .station) })
     (record { slot = 255; address = 255; running = false })

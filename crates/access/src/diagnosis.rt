@@ -5,8 +5,8 @@ ghost use Rattle.access.specs.Lookup.{foundIn, diagNumber, extendedSeen,
 use crate::images::pooled_refusal;
 use crate::lookup::find;
 use master::unit::DpMaster;
+use payloads::diagnosis::DiagnosticsInfo;
 use peripheral_set::PeripheralHandle;
-use telegrams::diagnosis::DiagnosticsInfo;
 
 // The number, and the diagnosis; "none" before one is held, and when refused.
 pub struct LastDiagnosis {

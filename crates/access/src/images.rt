@@ -1,7 +1,7 @@
 // Images in the lent pools: the part itself, empty when refused, and a call that answers the number.
 ghost use mathlib.Core.Path.{_≡_};
 ghost use Rattle.parts.specs.Parts.{Itself};
-ghost use Rattle.access.specs.Lookup.{pooledRefusal, inputNumber, outputNumber, inputsSeen, outputsSeen, rangeOf, Wrote};
+ghost use Rattle.access.specs.Lookup.{pooledRefusal, inputNumber, outputNumber, inputsSeen, outputsSeen, rangeOf, OutputsWritten};
 use crate::lookup::find;
 use master::unit::DpMaster;
 use peripheral_set::PeripheralHandle;
@@ -17,7 +17,7 @@ pub struct ImageRange {
 pub fn pooled_refusal(m: DpMaster, handle: PeripheralHandle, lent: usize, pool: u16) -> u8
     ensures { λ r. ⌜ r ≡ pooledRefusal lent pool handle (m .occupied) ⌝ }
 {
-    if lent != parts::place(pool) {
+    if lent != parts::widen16(pool) {
         return 2;
     }
     let marks = m.occupied;
@@ -88,8 +88,8 @@ pub fn pi_q_range(m: DpMaster, handle: PeripheralHandle, outputs: &[u8]) -> Imag
     }
     let f = find(m, handle);
     let p = f.peripheral;
-    let start = parts::place(p.ranges.outputs);
-    let len = parts::size(p.ranges.output_len);
+    let start = parts::widen16(p.ranges.outputs);
+    let len = parts::widen8(p.ranges.output_len);
     if parts::inside(start, len, outputs.len()) {
         return ImageRange {
             refusal: 0,
@@ -106,7 +106,7 @@ pub fn pi_q_range(m: DpMaster, handle: PeripheralHandle, outputs: &[u8]) -> Imag
 
 // The output image becomes `bytes`: 2, 4, and 11 where they are not as long as the image.
 pub fn write_outputs(m: DpMaster, handle: PeripheralHandle, bytes: &[u8], outputs: &mut [u8]) -> u8
-    ensures { λ r. ⌜ Wrote m handle (now (bytes .entry)) (now (outputs .entry)) (now (outputs .exit)) r ⌝ }
+    ensures { λ r. ⌜ OutputsWritten m handle (now (bytes .entry)) (now (outputs .entry)) (now (outputs .exit)) r ⌝ }
 {
     let refusal = pooled_refusal(m, handle, outputs.len(), m.parameters.output_pool);
     if refusal != 0 {
@@ -114,10 +114,10 @@ pub fn write_outputs(m: DpMaster, handle: PeripheralHandle, bytes: &[u8], output
     }
     let f = find(m, handle);
     let p = f.peripheral;
-    let len = parts::size(p.ranges.output_len);
+    let len = parts::widen8(p.ranges.output_len);
     if bytes.len() != len {
         return 11;
     }
-    parts::copy_at(outputs, parts::place(p.ranges.outputs), len, bytes);
+    parts::copy_at(outputs, parts::widen16(p.ranges.outputs), len, bytes);
     0
 }

@@ -4,9 +4,9 @@ ghost use Rattle.peripheral_set.specs.Marks.{handleRefusal};
 ghost use Rattle.station.specs.Record.{isLive, isRunning};
 ghost use Rattle.access.specs.Lookup.{foundIn};
 use master::unit::DpMaster;
+use payloads::options::PeripheralOptions;
 use peripheral::record::Peripheral;
 use peripheral_set::PeripheralHandle;
-use telegrams::options::PeripheralOptions;
 
 // The number of a handle, and its balance; a blank record when refused.
 pub struct Found {

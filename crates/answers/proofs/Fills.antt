@@ -6,7 +6,7 @@ use Prim.Native.Nat.{ℕ}
 use Rattle.parts.specs.Parts.{inside}
 use Rattle.parts.proofs.Laws.{by-test, put-nothing}
 use Rattle.fdl.specs.declared.parameters.Parameters.{Parameters}
-use Rattle.telegrams.specs.Payload.{Written}
+use Rattle.payloads.specs.Payload.{Written}
 use Rattle.peripheral.specs.declared.record.Peripheral.{Peripheral}
 use Rattle.cycle.specs.declared.seen.Sent.{Sent}
 use Rattle.cycle.specs.declared.state.Step.{Step}

@@ -3,7 +3,7 @@
 use Prim.Native.Nat.{ℕ}
 use mathlib.Core.Bool.{false}
 use Rattle.station.specs.declared.state.PeripheralEvent.{PeripheralEvent}
-use Rattle.station.specs.declared.state.PeripheralEvent.the-variants.{Nothing as NoEvent, Online, Configured, ConfigError, ParameterError, DataExchanged, Diagnostics, Offline as WentOffline}
+use Rattle.station.specs.declared.state.PeripheralEvent.the-variants.{NoEvent, Online, Configured, ConfigError, ParameterError, DataExchanged, Diagnostics, Offline as WentOffline}
 use Rattle.peripheral_set.specs.declared.PeripheralHandle.{PeripheralHandle}
 use Rattle.answers.specs.declared.reply.ReplyAnswer.{ReplyAnswer}
 

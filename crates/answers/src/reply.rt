@@ -25,7 +25,7 @@ pub fn event_handle(event: PeripheralEvent, slot: u8, address: u8) -> Peripheral
         address: address,
     };
     match event {
-        PeripheralEvent::Nothing => none,
+        PeripheralEvent::NoEvent => none,
         PeripheralEvent::Online => here,
         PeripheralEvent::Configured => here,
         PeripheralEvent::ConfigError => here,
@@ -47,7 +47,7 @@ impl ReplyAnswer {
         ReplyAnswer {
             refusal: refusal,
             cycle_completed: false,
-            event: PeripheralEvent::Nothing,
+            event: PeripheralEvent::NoEvent,
             handle: handle,
         }
     }

@@ -7,10 +7,10 @@ use cycle::seen::Sent;
 use cycle::state::Step;
 use fdl::parameters::Parameters;
 use fdl::telegram::DataTelegramHeader;
+use payloads::request::Request;
 use peripheral::record::Peripheral;
 use peripheral_set::PeripheralHandle;
 use station::state::PeripheralEvent;
-use telegrams::request::Request;
 
 // What a turn sent.
 pub enum Transmission {
@@ -64,15 +64,15 @@ pub fn fill(
     ensures { λ r. ⌜ Filling step sent p u (payloadSent step sent p u clear (now (setup .entry)) (now (outputs .entry))) (now (buf .entry)) (now (buf .exit)) r ⌝ }
 {
     match step {
-        Step::Stop => quiet(0, Transmission::Nothing),
+        Step::Halt => quiet(0, Transmission::Nothing),
         Step::Back => quiet(0, Transmission::Nothing),
         Step::Control => {
-            let len = telegrams::write::write_control(clear, buf);
-            let header = telegrams::request::control_header(u.address);
+            let len = payloads::write::write_control(clear, buf);
+            let header = payloads::request::control_header(u.address);
             quiet(len, Transmission::Control(header))
         }
         Step::Visits => match sent {
-            Sent::Nothing => quiet(0, Transmission::Nothing),
+            Sent::Nobody => quiet(0, Transmission::Nothing),
             Sent::To(slot, kind) => {
                 let header = p.header(kind, u.address);
                 let len = p.write_payload(kind, u, clear, setup, outputs, buf);
@@ -114,7 +114,7 @@ impl TurnAnswer {
             refusal: refusal,
             cycle_completed: false,
             offline: 0,
-            event: PeripheralEvent::Nothing,
+            event: PeripheralEvent::NoEvent,
             handle: handle,
             len: 0,
             transmission: Transmission::Nothing,
@@ -148,7 +148,7 @@ fn fell(first: u8) -> PeripheralEvent
     ensures { λ r. ⌜ r ≡ fellEvent first ⌝ }
 {
     if first == 255 {
-        return PeripheralEvent::Nothing;
+        return PeripheralEvent::NoEvent;
     }
     PeripheralEvent::Offline
 }
@@ -158,11 +158,11 @@ fn completes(step: Step, sent: Sent) -> bool
     ensures { λ r. ⌜ r ≡ completesOf step sent ⌝ }
 {
     match step {
-        Step::Stop => false,
+        Step::Halt => false,
         Step::Control => false,
         Step::Back => false,
         Step::Visits => match sent {
-            Sent::Nothing => true,
+            Sent::Nobody => true,
             Sent::To(_, _) => false,
         },
     }

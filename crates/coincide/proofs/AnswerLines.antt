@@ -5,22 +5,22 @@ use denote.Ref.{now}
 use Rattle.coincide.proofs.Fields.{both}
 use Rattle.coincide.specs.Coincide.{Coincide}
 use Rattle.coincide.proofs.Law.{same}
-use Rattle.answer_lines.proofs.bare.Kinds as K·bare
-use Rattle.answer_lines.proofs.bare.Reads as R·bare
-use Rattle.answer_lines.proofs.numbered.Kinds as K·numbered
-use Rattle.answer_lines.proofs.numbered.Reads as R·numbered
-use Rattle.answer_lines.proofs.added.Kinds as K·added
-use Rattle.answer_lines.proofs.added.Reads as R·added
-use Rattle.answer_lines.proofs.turn.Kinds as K·turn
-use Rattle.answer_lines.proofs.turn.Reads as R·turn
-use Rattle.answer_lines.proofs.reply.Kinds as K·reply
-use Rattle.answer_lines.proofs.reply.Reads as R·reply
-use Rattle.answer_lines.proofs.image.Kinds as K·image
-use Rattle.answer_lines.proofs.image.Reads as R·image
-use Rattle.answer_lines.proofs.diagnosis.Kinds as K·diagnosis
-use Rattle.answer_lines.proofs.diagnosis.Reads as R·diagnosis
-use Rattle.answer_lines.proofs.listing.Kinds as K·listing
-use Rattle.answer_lines.proofs.listing.Reads as R·listing
+use Rattle.script_answers.proofs.bare.Kinds as K·bare
+use Rattle.script_answers.proofs.bare.Reads as R·bare
+use Rattle.script_answers.proofs.numbered.Kinds as K·numbered
+use Rattle.script_answers.proofs.numbered.Reads as R·numbered
+use Rattle.script_answers.proofs.added.Kinds as K·added
+use Rattle.script_answers.proofs.added.Reads as R·added
+use Rattle.script_answers.proofs.turn.Kinds as K·turn
+use Rattle.script_answers.proofs.turn.Reads as R·turn
+use Rattle.script_answers.proofs.reply.Kinds as K·reply
+use Rattle.script_answers.proofs.reply.Reads as R·reply
+use Rattle.script_answers.proofs.image.Kinds as K·image
+use Rattle.script_answers.proofs.image.Reads as R·image
+use Rattle.script_answers.proofs.diagnosis.Kinds as K·diagnosis
+use Rattle.script_answers.proofs.diagnosis.Reads as R·diagnosis
+use Rattle.script_answers.proofs.listing.Kinds as K·listing
+use Rattle.script_answers.proofs.listing.Reads as R·listing
 
 pub bare : Coincide 1 K·bare.ps K·bare.r R·bare.Learnt (λ κs z y e f. (z ≡ y) × (now (e .0) ≡ now (f .0)))
 bare κs a z y e f p q = both (same p q)

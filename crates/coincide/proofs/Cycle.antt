@@ -19,8 +19,8 @@ use Rattle.cycle.proofs.seen.Sent.index.Kinds as K·seen-Sent-index
 use Rattle.cycle.proofs.seen.Sent.index.Reads as R·seen-Sent-index
 use Rattle.cycle.proofs.seen.Seen.new.Kinds as K·seen-Seen-new
 use Rattle.cycle.proofs.seen.Seen.new.Reads as R·seen-Seen-new
-use Rattle.cycle.proofs.seen.Seen.visited.Kinds as K·seen-Seen-visited
-use Rattle.cycle.proofs.seen.Seen.visited.Reads as R·seen-Seen-visited
+use Rattle.cycle.proofs.seen.Seen.seen_after.Kinds as K·seen-Seen-visited
+use Rattle.cycle.proofs.seen.Seen.seen_after.Reads as R·seen-Seen-visited
 use Rattle.cycle.proofs.seen.Seen.next.Kinds as K·seen-Seen-next
 use Rattle.cycle.proofs.seen.Seen.next.Reads as R·seen-Seen-next
 use Rattle.cycle.proofs.state.OperatingState.number.Kinds as K·state-OperatingState-number

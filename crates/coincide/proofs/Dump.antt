@@ -5,8 +5,8 @@ use denote.Ref.{now}
 use Rattle.coincide.proofs.Fields.{both}
 use Rattle.coincide.specs.Coincide.{Coincide}
 use Rattle.coincide.proofs.Law.{same}
-use Rattle.dump.proofs.line.Kinds as K·line
-use Rattle.dump.proofs.line.Reads as R·line
+use Rattle.script_dump.proofs.line.Kinds as K·line
+use Rattle.script_dump.proofs.line.Reads as R·line
 
 pub line : Coincide 1 K·line.ps K·line.r R·line.Learnt (λ κs z y e f. (z ≡ y) × (now (e .0) ≡ now (f .0)))
 line κs a z y e f p q = both (same p q)

@@ -11,8 +11,8 @@ use Rattle.fdl.proofs.consts.Service.sap.Kinds as K·consts-Service-sap
 use Rattle.fdl.proofs.consts.Service.sap.Reads as R·consts-Service-sap
 use Rattle.fdl.proofs.parameters.Parameters.refusal.Kinds as K·parameters-Parameters-refusal
 use Rattle.fdl.proofs.parameters.Parameters.refusal.Reads as R·parameters-Parameters-refusal
-use Rattle.fdl.proofs.parameters.Parameters.held.Kinds as K·parameters-Parameters-held
-use Rattle.fdl.proofs.parameters.Parameters.held.Reads as R·parameters-Parameters-held
+use Rattle.fdl.proofs.parameters.Parameters.in_force.Kinds as K·parameters-Parameters-held
+use Rattle.fdl.proofs.parameters.Parameters.in_force.Reads as R·parameters-Parameters-held
 use Rattle.fdl.proofs.parameters.Parameters.lowest.Kinds as K·parameters-Parameters-lowest
 use Rattle.fdl.proofs.parameters.Parameters.lowest.Reads as R·parameters-Parameters-lowest
 use Rattle.fdl.proofs.telegram.FrameCountBit.cycle.Kinds as K·telegram-FrameCountBit-cycle

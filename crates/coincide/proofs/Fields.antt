@@ -4,47 +4,47 @@ use mathlib.Core.Path.{_≡_, ap}
 use denote.Ref.{now}
 use Prim.Native.Nat.{ℕ}
 use mathlib.Core.List.{List}
-use Rattle.fields.specs.Write.{Out, standing}
+use Rattle.script_fields.specs.Write.{Out, standing}
 use Rattle.coincide.specs.Coincide.{Coincide}
 use Rattle.coincide.proofs.Law.{same}
-use Rattle.fields.proofs.read.digits.Kinds as K·read-digits
-use Rattle.fields.proofs.read.digits.Reads as R·read-digits
-use Rattle.fields.proofs.read.space.Kinds as K·read-space
-use Rattle.fields.proofs.read.space.Reads as R·read-space
-use Rattle.fields.proofs.read.number.Kinds as K·read-number
-use Rattle.fields.proofs.read.number.Reads as R·read-number
-use Rattle.fields.proofs.read.small.Kinds as K·read-small
-use Rattle.fields.proofs.read.small.Reads as R·read-small
-use Rattle.fields.proofs.read.wide_number.Kinds as K·read-wide-number
-use Rattle.fields.proofs.read.wide_number.Reads as R·read-wide-number
-use Rattle.fields.proofs.read.word.Kinds as K·read-word
-use Rattle.fields.proofs.read.word.Reads as R·read-word
-use Rattle.fields.proofs.read.flag.Kinds as K·read-flag
-use Rattle.fields.proofs.read.flag.Reads as R·read-flag
-use Rattle.fields.proofs.read.bytes.Kinds as K·read-bytes
-use Rattle.fields.proofs.read.bytes.Reads as R·read-bytes
-use Rattle.fields.proofs.read.setup.Kinds as K·read-setup
-use Rattle.fields.proofs.read.setup.Reads as R·read-setup
-use Rattle.fields.proofs.read.ends.Kinds as K·read-ends
-use Rattle.fields.proofs.read.ends.Reads as R·read-ends
-use Rattle.fields.proofs.write.wide.Kinds as K·write-wide
-use Rattle.fields.proofs.write.wide.Reads as R·write-wide
-use Rattle.fields.proofs.write.put.Kinds as K·write-put
-use Rattle.fields.proofs.write.put.Reads as R·write-put
-use Rattle.fields.proofs.write.number.Kinds as K·write-number
-use Rattle.fields.proofs.write.number.Reads as R·write-number
-use Rattle.fields.proofs.write.flag.Kinds as K·write-flag
-use Rattle.fields.proofs.write.flag.Reads as R·write-flag
-use Rattle.fields.proofs.write.field.Kinds as K·write-field
-use Rattle.fields.proofs.write.field.Reads as R·write-field
-use Rattle.fields.proofs.write.fields.Kinds as K·write-fields
-use Rattle.fields.proofs.write.fields.Reads as R·write-fields
-use Rattle.fields.proofs.write.byte_fields.Kinds as K·write-byte-fields
-use Rattle.fields.proofs.write.byte_fields.Reads as R·write-byte-fields
-use Rattle.fields.proofs.write.bytes.Kinds as K·write-bytes
-use Rattle.fields.proofs.write.bytes.Reads as R·write-bytes
-use Rattle.fields.proofs.write.sum.Kinds as K·write-sum
-use Rattle.fields.proofs.write.sum.Reads as R·write-sum
+use Rattle.script_fields.proofs.read.digits.Kinds as K·read-digits
+use Rattle.script_fields.proofs.read.digits.Reads as R·read-digits
+use Rattle.script_fields.proofs.read.space.Kinds as K·read-space
+use Rattle.script_fields.proofs.read.space.Reads as R·read-space
+use Rattle.script_fields.proofs.read.number.Kinds as K·read-number
+use Rattle.script_fields.proofs.read.number.Reads as R·read-number
+use Rattle.script_fields.proofs.read.small.Kinds as K·read-small
+use Rattle.script_fields.proofs.read.small.Reads as R·read-small
+use Rattle.script_fields.proofs.read.wide_number.Kinds as K·read-wide-number
+use Rattle.script_fields.proofs.read.wide_number.Reads as R·read-wide-number
+use Rattle.script_fields.proofs.read.word.Kinds as K·read-word
+use Rattle.script_fields.proofs.read.word.Reads as R·read-word
+use Rattle.script_fields.proofs.read.flag.Kinds as K·read-flag
+use Rattle.script_fields.proofs.read.flag.Reads as R·read-flag
+use Rattle.script_fields.proofs.read.bytes.Kinds as K·read-bytes
+use Rattle.script_fields.proofs.read.bytes.Reads as R·read-bytes
+use Rattle.script_fields.proofs.read.setup.Kinds as K·read-setup
+use Rattle.script_fields.proofs.read.setup.Reads as R·read-setup
+use Rattle.script_fields.proofs.read.ends.Kinds as K·read-ends
+use Rattle.script_fields.proofs.read.ends.Reads as R·read-ends
+use Rattle.script_fields.proofs.write.wide.Kinds as K·write-wide
+use Rattle.script_fields.proofs.write.wide.Reads as R·write-wide
+use Rattle.script_fields.proofs.write.put.Kinds as K·write-put
+use Rattle.script_fields.proofs.write.put.Reads as R·write-put
+use Rattle.script_fields.proofs.write.number.Kinds as K·write-number
+use Rattle.script_fields.proofs.write.number.Reads as R·write-number
+use Rattle.script_fields.proofs.write.flag.Kinds as K·write-flag
+use Rattle.script_fields.proofs.write.flag.Reads as R·write-flag
+use Rattle.script_fields.proofs.write.field.Kinds as K·write-field
+use Rattle.script_fields.proofs.write.field.Reads as R·write-field
+use Rattle.script_fields.proofs.write.fields.Kinds as K·write-fields
+use Rattle.script_fields.proofs.write.fields.Reads as R·write-fields
+use Rattle.script_fields.proofs.write.byte_fields.Kinds as K·write-byte-fields
+use Rattle.script_fields.proofs.write.byte_fields.Reads as R·write-byte-fields
+use Rattle.script_fields.proofs.write.bytes.Kinds as K·write-bytes
+use Rattle.script_fields.proofs.write.bytes.Reads as R·write-bytes
+use Rattle.script_fields.proofs.write.sum.Kinds as K·write-sum
+use Rattle.script_fields.proofs.write.sum.Reads as R·write-sum
 
 -- a place and a buffer that stand as one are one each
 pub both : {z y : ℕ} {a b : List ℕ} → standing z a ≡ standing y b → (z ≡ y) × (a ≡ b)

@@ -4,28 +4,28 @@ use mathlib.Core.Path.{_≡_}
 use denote.Ref.{now}
 use Rattle.coincide.specs.Coincide.{Coincide}
 use Rattle.coincide.proofs.Law.{same}
-use Rattle.telegrams.proofs.diagnosis.DiagnosticsInfo.none.Kinds as K·diagnosis-DiagnosticsInfo-none
-use Rattle.telegrams.proofs.diagnosis.DiagnosticsInfo.none.Reads as R·diagnosis-DiagnosticsInfo-none
-use Rattle.telegrams.proofs.diagnosis.is_taken.Kinds as K·diagnosis-is-taken
-use Rattle.telegrams.proofs.diagnosis.is_taken.Reads as R·diagnosis-is-taken
-use Rattle.telegrams.proofs.diagnosis.read_diagnosis.Kinds as K·diagnosis-read-diagnosis
-use Rattle.telegrams.proofs.diagnosis.read_diagnosis.Reads as R·diagnosis-read-diagnosis
-use Rattle.telegrams.proofs.diagnosis.store_extended.Kinds as K·diagnosis-store-extended
-use Rattle.telegrams.proofs.diagnosis.store_extended.Reads as R·diagnosis-store-extended
-use Rattle.telegrams.proofs.request.control_header.Kinds as K·request-control-header
-use Rattle.telegrams.proofs.request.control_header.Reads as R·request-control-header
-use Rattle.telegrams.proofs.request.Request.number.Kinds as K·request-Request-number
-use Rattle.telegrams.proofs.request.Request.number.Reads as R·request-Request-number
-use Rattle.telegrams.proofs.request.Request.header.Kinds as K·request-Request-header
-use Rattle.telegrams.proofs.request.Request.header.Reads as R·request-Request-header
-use Rattle.telegrams.proofs.write.write_parameters.Kinds as K·write-write-parameters
-use Rattle.telegrams.proofs.write.write_parameters.Reads as R·write-write-parameters
-use Rattle.telegrams.proofs.write.write_bytes.Kinds as K·write-write-bytes
-use Rattle.telegrams.proofs.write.write_bytes.Reads as R·write-write-bytes
-use Rattle.telegrams.proofs.write.write_zeros.Kinds as K·write-write-zeros
-use Rattle.telegrams.proofs.write.write_zeros.Reads as R·write-write-zeros
-use Rattle.telegrams.proofs.write.write_control.Kinds as K·write-write-control
-use Rattle.telegrams.proofs.write.write_control.Reads as R·write-write-control
+use Rattle.payloads.proofs.diagnosis.DiagnosticsInfo.none.Kinds as K·diagnosis-DiagnosticsInfo-none
+use Rattle.payloads.proofs.diagnosis.DiagnosticsInfo.none.Reads as R·diagnosis-DiagnosticsInfo-none
+use Rattle.payloads.proofs.diagnosis.is_taken.Kinds as K·diagnosis-is-taken
+use Rattle.payloads.proofs.diagnosis.is_taken.Reads as R·diagnosis-is-taken
+use Rattle.payloads.proofs.diagnosis.read_diagnosis.Kinds as K·diagnosis-read-diagnosis
+use Rattle.payloads.proofs.diagnosis.read_diagnosis.Reads as R·diagnosis-read-diagnosis
+use Rattle.payloads.proofs.diagnosis.store_extended.Kinds as K·diagnosis-store-extended
+use Rattle.payloads.proofs.diagnosis.store_extended.Reads as R·diagnosis-store-extended
+use Rattle.payloads.proofs.request.control_header.Kinds as K·request-control-header
+use Rattle.payloads.proofs.request.control_header.Reads as R·request-control-header
+use Rattle.payloads.proofs.request.Request.number.Kinds as K·request-Request-number
+use Rattle.payloads.proofs.request.Request.number.Reads as R·request-Request-number
+use Rattle.payloads.proofs.request.Request.header.Kinds as K·request-Request-header
+use Rattle.payloads.proofs.request.Request.header.Reads as R·request-Request-header
+use Rattle.payloads.proofs.write.write_parameters.Kinds as K·write-write-parameters
+use Rattle.payloads.proofs.write.write_parameters.Reads as R·write-write-parameters
+use Rattle.payloads.proofs.write.write_bytes.Kinds as K·write-write-bytes
+use Rattle.payloads.proofs.write.write_bytes.Reads as R·write-write-bytes
+use Rattle.payloads.proofs.write.write_zeros.Kinds as K·write-write-zeros
+use Rattle.payloads.proofs.write.write_zeros.Reads as R·write-write-zeros
+use Rattle.payloads.proofs.write.write_control.Kinds as K·write-write-control
+use Rattle.payloads.proofs.write.write_control.Reads as R·write-write-control
 
 pub diagnosis-DiagnosticsInfo-none : Coincide 0 K·diagnosis-DiagnosticsInfo-none.ps K·diagnosis-DiagnosticsInfo-none.r R·diagnosis-DiagnosticsInfo-none.Learnt (λ κs z y e f. z ≡ y)
 diagnosis-DiagnosticsInfo-none κs a z y e f p q = same p q

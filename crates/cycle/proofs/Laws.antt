@@ -1,12 +1,11 @@
 -- The laws of refusals and of the state that the proofs here and in the crates above cite.
 -- The idea: a refusal that is 0 has passed every check, and each check is the fact that it tests.
 use mathlib.Core.Path.{_≡_, refl, sym, ap, _∙_}
-use mathlib.Core.Bool.{Bool, true, false, not, _&&_, false≢true}
+use mathlib.Core.Bool.{Bool, true, false, not, _&&_, false≢true, cond}
 use Prim.Native.Nat.{ℕ, _+_, _≤_, _<_}
 use native.Mathlib.Omega.{arith}
 use lib.Dec.{ltb, leb, eqb}
 use borrow.Author.Tests.{ltb-true, leb-true, eqb-true, eqb-false, eq-eqb, ne-eqb}
-use Rattle.parts.specs.Parts.{pick}
 use Rattle.parts.proofs.Laws.{by-test}
 use Rattle.cycle.specs.declared.state.DpMasterState.{DpMasterState}
 use Rattle.fdl.specs.declared.parameters.Parameters.{Parameters}
@@ -97,13 +96,13 @@ module _ (slot : ℕ) (s : DpMasterState) where
   pub closed-here : s .«open_slot» ≡ slot → placed (s .slot) (s .completed) 0 0 s ≡ closedFor slot s
   closed-here e = by-eq (eqb (s .«open_slot») slot) (eq-eqb _ _ e)
     where
-      by-eq : (b : Bool) → b ≡ true → placed (s .slot) (s .completed) 0 0 s ≡ pick b (placed (s .slot) (s .completed) 0 0 s) s
+      by-eq : (b : Bool) → b ≡ true → placed (s .slot) (s .completed) 0 0 s ≡ cond b (placed (s .slot) (s .completed) 0 0 s) s
       by-eq true q = refl
       by-eq false q = absurd (false≢true q)
 
   pub closed-other : (s .«open_slot» ≡ slot → ⊥) → s ≡ closedFor slot s
   closed-other d = by-ne (eqb (s .«open_slot») slot) (ne-eqb _ _ d)
     where
-      by-ne : (b : Bool) → b ≡ false → s ≡ pick b (placed (s .slot) (s .completed) 0 0 s) s
+      by-ne : (b : Bool) → b ≡ false → s ≡ cond b (placed (s .slot) (s .completed) 0 0 s) s
       by-ne true q = absurd (false≢true (sym q))
       by-ne false q = refl

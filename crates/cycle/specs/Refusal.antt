@@ -1,9 +1,8 @@
 -- Which call is refused, and with which number: the first line of the table that applies.
 -- From 01, "Refusal numbers", and the lengths of "The unit and its sizes".
 use Prim.Native.Nat.{ℕ, _+_}
-use mathlib.Core.Bool.{Bool, true, false, not, _&&_}
+use mathlib.Core.Bool.{Bool, true, false, not, _&&_, cond}
 use lib.Dec.{ltb, leb, eqb}
-use Rattle.parts.specs.Parts.{pick}
 use Rattle.fdl.specs.Params.{maxAddress}
 use Rattle.fdl.specs.Reply.{usableReply}
 use Rattle.fdl.specs.declared.parameters.Parameters.{Parameters}
@@ -20,7 +19,7 @@ payloadMin = 244
 
 -- the number where the check holds, else what the checks after it say
 abbrev pub unless : Bool → ℕ → ℕ → ℕ
-unless ok n rest = pick ok rest n
+unless ok n rest = cond ok rest n
 
 -- turn: a lent pool's length is not the one at creation, or payload buffer under 244 bytes; time before that of the last accepted turn
 unfoldable pub turnRefusal : Parameters → DpMasterState → ℕ → ℕ → ℕ → ℕ → ℕ
@@ -59,7 +58,7 @@ roomRefusal u used l =
 
 -- the first of two that is not 0
 abbrev pub orElse : ℕ → ℕ → ℕ
-orElse n rest = pick (eqb n 0) rest n
+orElse n rest = cond (eqb n 0) rest n
 
 -- add: lent pools, all slots occupied, address, lengths, ranges; slot is the first empty one
 unfoldable pub addRefusal : Parameters → Used → Lent → ℕ → ℕ → Lengths → ℕ

@@ -47,10 +47,10 @@ pub fn turn_refusal(
 ) -> u8
     ensures { λ r. ⌜ r ≡ turnRefusal u s now setup outputs payload ⌝ }
 {
-    if setup != parts::place(u.setup_pool) {
+    if setup != parts::widen16(u.setup_pool) {
         return 2;
     }
-    if outputs != parts::place(u.output_pool) {
+    if outputs != parts::widen16(u.output_pool) {
         return 2;
     }
     if payload < PAYLOAD_MIN {
@@ -75,16 +75,16 @@ pub fn reply_refusal(
 ) -> u8
     ensures { λ r. ⌜ r ≡ replyRefusal u s asked address telegram payload inputs diags ⌝ }
 {
-    if inputs != parts::place(u.input_pool) {
+    if inputs != parts::widen16(u.input_pool) {
         return 2;
     }
-    if diags != parts::place(u.diag_pool) {
+    if diags != parts::widen16(u.diag_pool) {
         return 2;
     }
     if s.open_kind == 0 {
         return 9;
     }
-    if SLOTS <= parts::size(s.open_slot) {
+    if SLOTS <= parts::widen8(s.open_slot) {
         return 9;
     }
     if address != asked {
@@ -137,21 +137,25 @@ fn room_refusal(u: Parameters, used: Used, l: Lengths) -> u8
     ensures { λ r. ⌜ r ≡ roomRefusal u used l ⌝ }
 {
     if parts::inside(
-        parts::place(used.setup),
+        parts::widen16(used.setup),
         l.user + l.config,
-        parts::place(u.setup_pool),
+        parts::widen16(u.setup_pool),
     ) {
         if parts::inside(
-            parts::place(used.inputs),
+            parts::widen16(used.inputs),
             l.inputs,
-            parts::place(u.input_pool),
+            parts::widen16(u.input_pool),
         ) {
             if parts::inside(
-                parts::place(used.outputs),
+                parts::widen16(used.outputs),
                 l.outputs,
-                parts::place(u.output_pool),
+                parts::widen16(u.output_pool),
             ) {
-                if parts::inside(parts::place(used.diags), l.room, parts::place(u.diag_pool)) {
+                if parts::inside(
+                    parts::widen16(used.diags),
+                    l.room,
+                    parts::widen16(u.diag_pool),
+                ) {
                     return 0;
                 }
             }
@@ -171,16 +175,16 @@ pub fn add_refusal(
 ) -> u8
     ensures { λ r. ⌜ r ≡ addRefusal u used lent slot address l ⌝ }
 {
-    if lent.setup != parts::place(u.setup_pool) {
+    if lent.setup != parts::widen16(u.setup_pool) {
         return 2;
     }
-    if lent.inputs != parts::place(u.input_pool) {
+    if lent.inputs != parts::widen16(u.input_pool) {
         return 2;
     }
-    if lent.outputs != parts::place(u.output_pool) {
+    if lent.outputs != parts::widen16(u.output_pool) {
         return 2;
     }
-    if lent.diags != parts::place(u.diag_pool) {
+    if lent.diags != parts::widen16(u.diag_pool) {
         return 2;
     }
     if SLOTS <= slot {

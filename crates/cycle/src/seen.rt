@@ -3,16 +3,16 @@ ghost use mathlib.Core.Path.{_≡_};
 ghost use Prim.Native.Nat.{_<_};
 ghost use Rattle.peripheral_set.specs.Marks.{slots};
 ghost use Rattle.cycle.specs.Seen.{bitAt, nothingSeen, seenBy, idle, nextIn, indexOf, sentIndex};
+use payloads::request::Request;
 use peripheral_set::SLOTS;
 use station::visit::Visited;
-use telegrams::request::Request;
 
 // A bit for each slot.
 pub type Mask = u32;
 
 // What was sent to a slot.
 pub enum Sent {
-    Nothing,
+    Nobody,
     To(u8, Request),
 }
 
@@ -34,7 +34,7 @@ pub fn bit(slot: usize) -> Mask
 pub fn index(slot: u8) -> usize
     ensures { λ r. ⌜ (r ≡ indexOf slot) × (r < slots) ⌝ }
 {
-    let i = parts::size(slot);
+    let i = parts::widen8(slot);
     if i < SLOTS { i } else { 0 }
 }
 
@@ -44,7 +44,7 @@ impl Sent {
         ensures { λ r. ⌜ (r ≡ sentIndex self) × (r < slots) ⌝ }
     {
         match self {
-            Sent::Nothing => 0,
+            Sent::Nobody => 0,
             Sent::To(slot, _) => index(slot),
         }
     }
@@ -57,25 +57,25 @@ impl Seen {
         Seen {
             mask: 0,
             first: 255,
-            sent: Sent::Nothing,
+            sent: Sent::Nobody,
         }
     }
 
     // After the visit to a slot.
-    pub fn visited(self, slot: u8, what: Visited) -> Seen
+    pub fn seen_after(self, slot: u8, what: Visited) -> Seen
         ensures { λ r. ⌜ r ≡ seenBy slot what self ⌝ }
     {
         let mask = self.mask;
         let first = self.first;
         let sent = self.sent;
         match what {
-            Visited::Sent(kind) => Seen {
+            Visited::Sends(kind) => Seen {
                 mask: mask,
                 first: first,
                 sent: Sent::To(slot, kind),
             },
-            Visited::Fell => {
-                let more = mask | bit(parts::size(slot));
+            Visited::Drops => {
+                let more = mask | bit(parts::widen8(slot));
                 if first == 255 {
                     return Seen {
                         mask: more,
@@ -89,7 +89,7 @@ impl Seen {
                     sent: sent,
                 }
             }
-            Visited::Skipped => self,
+            Visited::Skips => self,
         }
     }
 
@@ -99,7 +99,7 @@ impl Seen {
     {
         let sent = self.sent;
         match sent {
-            Sent::Nothing => peripheral_set::next_after(marks, slot),
+            Sent::Nobody => peripheral_set::next_after(marks, slot),
             Sent::To(_, _) => SLOTS,
         }
     }

@@ -1,7 +1,7 @@
 // The operating state, the cycle, and when the global control is due.
 ghost use mathlib.Core.Path.{_≡_};
 ghost use Prim.Native.Nat.{_-_, _<_};
-ghost use Rattle.cycle.specs.State.{operatingNumber, operatingOf, freshState, entered, isClear, dueOf, runningOf, stepOf, startOf, afterTurn, answered, closedFor};
+ghost use Rattle.cycle.specs.State.{operatingNumber, operatingOf, freshState, entered, isClear, controlDue, runningOf, stepOf, startOf, afterTurn, answered, closedFor};
 use crate::seen::Seen;
 use crate::seen::Sent;
 use peripheral_set::SLOTS;
@@ -14,7 +14,7 @@ pub enum OperatingState {
 
 // What a turn does: nothing, the global control, the place taken back, or the visits.
 pub enum Step {
-    Stop,
+    Halt,
     Control,
     Back,
     Visits,
@@ -29,7 +29,7 @@ pub struct DpMasterState {
     pub completed: bool,
     pub open_slot: u8,
     pub open_kind: u8,
-    pub turned: bool,
+    pub has_turned: bool,
     pub controlled: bool,
     pub operating: u8,
 }
@@ -82,7 +82,7 @@ impl DpMasterState {
             completed: false,
             open_slot: 0,
             open_kind: 0,
-            turned: false,
+            has_turned: false,
             controlled: false,
             operating: 0,
         }
@@ -113,7 +113,7 @@ impl DpMasterState {
 
     // Whether the global control is due.
     pub fn control_due(self, now: u64, high_prio_only: bool, slot_time: u32) -> bool
-        ensures { λ r. ⌜ r ≡ dueOf now «high_prio_only» «slot_time» self ⌝ }
+        ensures { λ r. ⌜ r ≡ controlDue now «high_prio_only» «slot_time» self ⌝ }
     {
         if high_prio_only {
             return false;
@@ -126,12 +126,12 @@ impl DpMasterState {
 
     // What a turn does now.
     pub fn step(self, now: u64, high_prio_only: bool, slot_time: u32) -> Step
-        ensures { λ r. ⌜ r ≡ stepOf (operatingOf (self .operating)) (dueOf now «high_prio_only» «slot_time» self) (self .completed) ⌝ }
+        ensures { λ r. ⌜ r ≡ stepOf (operatingOf (self .operating)) (controlDue now «high_prio_only» «slot_time» self) (self .completed) ⌝ }
     {
         let operating = OperatingState::of(self.operating);
         let due = self.control_due(now, high_prio_only, slot_time);
         match operating {
-            OperatingState::Stop => Step::Stop,
+            OperatingState::Stop => Step::Halt,
             OperatingState::Clear => self.running(due),
             OperatingState::Operate => self.running(due),
         }
@@ -155,10 +155,10 @@ impl DpMasterState {
         ensures { λ r. ⌜ r ≡ startOf step self ⌝ }
     {
         match step {
-            Step::Stop => SLOTS,
+            Step::Halt => SLOTS,
             Step::Control => SLOTS,
             Step::Back => SLOTS,
-            Step::Visits => parts::size(self.slot),
+            Step::Visits => parts::widen8(self.slot),
         }
     }
 
@@ -168,11 +168,11 @@ impl DpMasterState {
     {
         let mut s = self;
         s.last_turn = now;
-        s.turned = true;
+        s.has_turned = true;
         s.open_slot = 0;
         s.open_kind = 0;
         match step {
-            Step::Stop => s,
+            Step::Halt => s,
             Step::Control => {
                 s.last_control = now;
                 s.controlled = true;
@@ -186,7 +186,7 @@ impl DpMasterState {
             Step::Visits => {
                 s.completed = false;
                 match sent {
-                    Sent::Nothing => {
+                    Sent::Nobody => {
                         s.slot = 0;
                         s
                     }

@@ -1,8 +1,8 @@
 -- The frame bit and the kinds of request, with the number of each.
 -- From 01, "One visit and one reply" (First, Low, High, priorities) and "One turn" (inactive, SDN); the codes of the kinds are the standard's.
+use mathlib.Core.Bool.{cond}
 use Prim.Native.Nat.{ℕ}
 use lib.Dec.{eqb}
-use Rattle.parts.specs.Parts.{pick}
 use Rattle.fdl.specs.declared.telegram.FrameCountBit.{FrameCountBit}
 use Rattle.fdl.specs.declared.telegram.FrameCountBit.the-variants.{First, Low, High, Inactive}
 use Rattle.fdl.specs.declared.telegram.RequestType.{RequestType}
@@ -38,7 +38,7 @@ bitNumber High = 3
 
 -- the bit of a number; any other number counts as inactive
 abbrev pub bitOf : ℕ → FrameCountBit
-bitOf n = pick (eqb n 1) First (pick (eqb n 2) Low (pick (eqb n 3) High Inactive))
+bitOf n = cond (eqb n 1) First (cond (eqb n 2) Low (cond (eqb n 3) High Inactive))
 
 -- the low bits of the function code
 abbrev pub requestNumber : RequestType → ℕ

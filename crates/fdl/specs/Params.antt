@@ -1,9 +1,8 @@
 -- The parameters of a unit: their ranges, what a record holds of them, and the lowest values.
 -- From 01, "The unit and its sizes" (ranges) and "Refusal numbers" (No. 1, and what a refused creation returns).
 use Prim.Native.Nat.{ℕ}
-use mathlib.Core.Bool.{Bool, false, _&&_}
+use mathlib.Core.Bool.{Bool, false, _&&_, cond}
 use lib.Dec.{leb}
-use Rattle.parts.specs.Parts.{pick}
 use Rattle.fdl.specs.declared.parameters.Parameters.{Parameters}
 
 -- the highest address of a station
@@ -28,11 +27,11 @@ inRange p =
 
 -- 1: a parameter outside its range
 abbrev pub creationRefusal : Parameters → ℕ
-creationRefusal p = pick (inRange p) 0 1
+creationRefusal p = cond (inRange p) 0 1
 
 -- what a unit created with p holds: with the watchdog off the factors are 0
-unfoldable pub held : Parameters → Parameters
-held p =
+unfoldable pub inForce : Parameters → Parameters
+inForce p =
     record {
       «slot_time» = p .«slot_time»;
       «setup_pool» = p .«setup_pool»;
@@ -42,8 +41,8 @@ held p =
       address = p .address;
       «max_retry_limit» = p .«max_retry_limit»;
       watchdog = p .watchdog;
-      «watchdog_first» = pick (p .watchdog) (p .«watchdog_first») 0;
-      «watchdog_second» = pick (p .watchdog) (p .«watchdog_second») 0;
+      «watchdog_first» = cond (p .watchdog) (p .«watchdog_first») 0;
+      «watchdog_second» = cond (p .watchdog) (p .«watchdog_second») 0;
       «min_tsdr_bits» = p .«min_tsdr_bits»;
     }
 

@@ -1,10 +1,9 @@
 -- The status of a data reply: the nine codes and what each means, and which replies can be used at all.
 -- From 01, "One visit and one reply" ("a decision over the nine codes") and "Refusal numbers", No. 10.
 use Prim.Native.Nat.{ℕ}
-use mathlib.Core.Bool.{Bool, true, false, _&&_}
+use mathlib.Core.Bool.{Bool, true, false, _&&_, cond}
 use mathlib.Core.List.{List, []}
 use lib.Dec.{eqb, leb}
-use Rattle.parts.specs.Parts.{pick}
 use Rattle.fdl.specs.declared.telegram.ResponseStatus.{ResponseStatus}
 use Rattle.fdl.specs.declared.telegram.ResponseStatus.the-variants.{Ok, SapNotEnabled, DataLow, DataHigh, Other, Unusable}
 use Rattle.fdl.specs.declared.telegram.Telegram.{Telegram}
@@ -13,15 +12,15 @@ use Rattle.fdl.specs.declared.telegram.Telegram.the-variants.{ShortConfi
 -- the nine codes, by the names of the Rust; any other number is unusable
 abbrev pub statusOf : ℕ → ResponseStatus
 statusOf n =
-    pick (eqb n 0) Ok
-    (pick (eqb n 1) Other
-    (pick (eqb n 2) Other
-    (pick (eqb n 3) SapNotEnabled
-    (pick (eqb n 8) DataLow
-    (pick (eqb n 9) Other
-    (pick (eqb n 10) DataHigh
-    (pick (eqb n 12) Other
-    (pick (eqb n 13) Other Unusable))))))))
+    cond (eqb n 0) Ok
+    (cond (eqb n 1) Other
+    (cond (eqb n 2) Other
+    (cond (eqb n 3) SapNotEnabled
+    (cond (eqb n 8) DataLow
+    (cond (eqb n 9) Other
+    (cond (eqb n 10) DataHigh
+    (cond (eqb n 12) Other
+    (cond (eqb n 13) Other Unusable))))))))
 
 abbrev pub usableStatus : ResponseStatus → Bool
 usableStatus Ok = true

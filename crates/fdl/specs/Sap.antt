@@ -1,8 +1,8 @@
 -- Service access points: absent or a number, and the number of each one that the Rust names.
 -- From 01, "One visit and one reply" (60, 61, 62, none) and "Global control is DSAP 58, SSAP 62"; the others are the standard's.
+use mathlib.Core.Bool.{cond}
 use Prim.Native.Nat.{ℕ}
 use lib.Dec.{eqb}
-use Rattle.parts.specs.Parts.{pick}
 use Rattle.fdl.specs.declared.consts.Sap.{Sap}
 use Rattle.fdl.specs.declared.consts.Sap.the-variants.{Absent, At}
 use Rattle.fdl.specs.declared.consts.Service.{Service}
@@ -14,7 +14,7 @@ sapNumber Absent = 255
 sapNumber (At n) = n
 
 abbrev pub sapOf : ℕ → Sap
-sapOf n = pick (eqb n 255) Absent (At n)
+sapOf n = cond (eqb n 255) Absent (At n)
 
 abbrev pub serviceSap : Service → Sap
 serviceSap MasterDataExchange = Absent

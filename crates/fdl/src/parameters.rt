@@ -1,7 +1,7 @@
 // The parameters of a unit.
 ghost use mathlib.Core.Path.{_≡_};
-ghost use Rattle.parts.specs.Parts.{pick};
-ghost use Rattle.fdl.specs.Params.{creationRefusal, held, lowest};
+ghost use mathlib.Core.Bool.{cond};
+ghost use Rattle.fdl.specs.Params.{creationRefusal, inForce, lowest};
 
 // The highest address of a station, and the longest pool. The definitions say them again.
 pub const MAX_ADDRESS: u8 = 125;
@@ -25,7 +25,7 @@ pub struct Parameters {
 
 // The factor where the watchdog is on.
 fn factor(watchdog: bool, f: u8) -> u8
-    ensures { λ r. ⌜ r ≡ pick watchdog f 0 ⌝ }
+    ensures { λ r. ⌜ r ≡ cond watchdog f 0 ⌝ }
 {
     if watchdog { f } else { 0 }
 }
@@ -63,8 +63,8 @@ impl Parameters {
     }
 
     // As a record holds them: with the watchdog off its factors are 0.
-    pub fn held(self) -> Parameters
-        ensures { λ r. ⌜ r ≡ held self ⌝ }
+    pub fn in_force(self) -> Parameters
+        ensures { λ r. ⌜ r ≡ inForce self ⌝ }
     {
         let mut p = self;
         p.watchdog_first = factor(self.watchdog, self.watchdog_first);

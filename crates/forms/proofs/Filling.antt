@@ -1,7 +1,7 @@
 -- The entries that are listed, and entries at the front of a list.
 -- The idea: the n-th entry is the entry of the n-th occupied slot, and writing them one after the other lays them over the front.
 use mathlib.Core.Path.{_≡_, refl, sym, ap}
-use mathlib.Core.Bool.{Bool, true, false}
+use mathlib.Core.Bool.{Bool, true, false, cond}
 use mathlib.Core.List.{List, [], _∷_}
 use Prim.Native.Nat.{ℕ, zero, suc, _+_, _≤_, _<_}
 use native.Mathlib.Nat.{not-suc-le-zero, le-of-suc-le-suc}
@@ -9,7 +9,6 @@ use native.Mathlib.Omega.{arith}
 use lib.Dec.{leb}
 use lib.ListN.{length, set, take, getD, length-map, List·getD-map}
 use borrow.Author.Tests.{leb-true}
-use Rattle.parts.specs.Parts.{pick}
 use Rattle.parts.proofs.Laws.{by-test}
 use Rattle.peripheral_set.specs.declared.Entry.{Entry}
 use Rattle.peripheral_set.specs.Marks.{slots, listed, listedFrom}
@@ -36,7 +35,7 @@ module _ (m : DpMaster) where
     pub shown-fits : (length (shown m room) ≤ slots) × (length (shown m room) ≤ room)
     shown-fits = by-case (leb slots room) refl
       where
-        by-case : (b : Bool) → leb slots room ≡ b → (length (pick b (entries m) []) ≤ slots) × (length (pick b (entries m) []) ≤ room)
+        by-case : (b : Bool) → leb slots room ≡ b → (length (cond b (entries m) []) ≤ slots) × (length (cond b (entries m) []) ≤ room)
         by-case true e = (omega (arith, as-many, few slots (m .occupied) 0), omega (arith, as-many, few slots (m .occupied) 0, leb-true slots room e))
         by-case false e = (omega arith, omega arith)
 
@@ -44,7 +43,7 @@ module _ (m : DpMaster) where
     pub shown-at : (i : ℕ) → i < length (shown m room) → entryAt m (getD (listed (m .occupied)) i slots) ≡ getD (shown m room) i (entryAt m slots)
     shown-at i = by-case (leb slots room)
       where
-        by-case : (b : Bool) → i < length (pick b (entries m) []) → entryAt m (getD (listed (m .occupied)) i slots) ≡ getD (pick b (entries m) []) i (entryAt m slots)
+        by-case : (b : Bool) → i < length (cond b (entries m) []) → entryAt m (getD (listed (m .occupied)) i slots) ≡ getD (cond b (entries m) []) i (entryAt m slots)
         by-case true h = sym (List·getD-map (entryAt m) (listed (m .occupied)) i slots)
         by-case false h = absurd (not-suc-le-zero h)
 

@@ -1,7 +1,7 @@
 -- What "the occupied slots in rising order" comes to: every entry is of an occupied slot, each occupied slot has one, and their slots rise; and how a lent list stands afterwards.
 -- The idea: among n slots from i on, the listing has slots of that range alone, and the first comes before the rest.
 use mathlib.Core.Path.{_≡_, refl, sym, ap, _∙_}
-use mathlib.Core.Bool.{Bool, true, false, true≢false}
+use mathlib.Core.Bool.{Bool, true, false, true≢false, cond}
 use mathlib.Core.List.{List, [], _∷_, _++_}
 use mathlib.Core.Logic.{by-cases}
 use Prim.Native.Nat.{ℕ, zero, suc, _+_, _≤_, _<_}
@@ -11,7 +11,6 @@ use native.Mathlib.Omega.{arith}
 use lib.Dec.{ltb}
 use lib.ListN.{length, getD, take, drop, List·getD-map}
 use borrow.Author.Tests.{lt-ltb, ltb-true, lt-leb, le-leb}
-use Rattle.parts.specs.Parts.{pick}
 use Rattle.parts.proofs.Laws.{and-left, and-right}
 use Rattle.peripheral_set.specs.declared.Entry.{Entry}
 use Rattle.peripheral_set.specs.Marks.{slots, isOccupied, listedFrom, listed}
@@ -38,7 +37,7 @@ module _ (marks : List Bool) (d : ℕ) where
   among (suc n) i k h = by-case (getD marks i false) k refl (among n (i + 1)) h
     where
       by-case : (b : Bool) (k : ℕ) → getD marks i false ≡ b → ((k : ℕ) → k < length (listedFrom n marks (i + 1)) → Among n (i + 1) (at n (i + 1) k))
-          → k < length (pick b (i ∷ listedFrom n marks (i + 1)) (listedFrom n marks (i + 1))) → Among (suc n) i (getD (pick b (i ∷ listedFrom n marks (i + 1)) (listedFrom n marks (i + 1))) k d)
+          → k < length (cond b (i ∷ listedFrom n marks (i + 1)) (listedFrom n marks (i + 1))) → Among (suc n) i (getD (cond b (i ∷ listedFrom n marks (i + 1)) (listedFrom n marks (i + 1))) k d)
       by-case true zero e ih h = (omega arith, omega arith, e)
       by-case true (suc k) e ih h = wider n i _ (ih k (le-of-suc-le-suc h))
       by-case false k e ih h = wider n i _ (ih k h)
@@ -49,8 +48,8 @@ module _ (marks : List Bool) (d : ℕ) where
   rise (suc n) i j k l h = by-case (getD marks i false) j k (rise n (i + 1)) l h
     where
       by-case : (b : Bool) (j k : ℕ) → ((j k : ℕ) → j < k → k < length (listedFrom n marks (i + 1)) → at n (i + 1) j < at n (i + 1) k) → j < k
-          → k < length (pick b (i ∷ listedFrom n marks (i + 1)) (listedFrom n marks (i + 1)))
-          → getD (pick b (i ∷ listedFrom n marks (i + 1)) (listedFrom n marks (i + 1))) j d < getD (pick b (i ∷ listedFrom n marks (i + 1)) (listedFrom n marks (i + 1))) k d
+          → k < length (cond b (i ∷ listedFrom n marks (i + 1)) (listedFrom n marks (i + 1)))
+          → getD (cond b (i ∷ listedFrom n marks (i + 1)) (listedFrom n marks (i + 1))) j d < getD (cond b (i ∷ listedFrom n marks (i + 1)) (listedFrom n marks (i + 1))) k d
       by-case true j zero ih l h = absurd (not-suc-le-zero l)
       by-case true zero (suc k) ih l h = omega (arith, among n (i + 1) k (le-of-suc-le-suc h) .0)
       by-case true (suc j) (suc k) ih l h = ih j k (le-of-suc-le-suc l) (le-of-suc-le-suc h)
@@ -68,11 +67,11 @@ module _ (marks : List Bool) (d : ℕ) where
   found zero i x a = absurd (omega (arith, a .0, a .1))
   found (suc n) i x a = by-cases (decLe (i + 1) x) (λ l. passed (getD marks i false) (found n (i + 1) x (l, omega (arith, a .1), a .2))) (λ l. here (getD marks i false) (omega (arith, a .0)) refl)
     where
-      passed : (b : Bool) → Has (listedFrom n marks (i + 1)) x → Has (pick b (i ∷ listedFrom n marks (i + 1)) (listedFrom n marks (i + 1))) x
+      passed : (b : Bool) → Has (listedFrom n marks (i + 1)) x → Has (cond b (i ∷ listedFrom n marks (i + 1)) (listedFrom n marks (i + 1))) x
       passed true s = later i (listedFrom n marks (i + 1)) x s
       passed false s = s
 
-      here : (b : Bool) → i ≡ x → getD marks i false ≡ b → Has (pick b (i ∷ listedFrom n marks (i + 1)) (listedFrom n marks (i + 1))) x
+      here : (b : Bool) → i ≡ x → getD marks i false ≡ b → Has (cond b (i ∷ listedFrom n marks (i + 1)) (listedFrom n marks (i + 1))) x
       here true e t = (0, (omega arith, e))
       here false e t = absurd (true≢false (sym (a .2) ∙ sym (ap (λ (y : ℕ). getD marks y false) e) ∙ t))
 

@@ -5,7 +5,7 @@ use Prim.Native.Nat.{ℕ}
 use mathlib.Core.List.{List}
 use denote.Ref.{RefT, now}
 use Rattle.parts.specs.Parts.{Itself}
-use Rattle.telegrams.specs.declared.diagnosis.DiagnosticsInfo.{DiagnosticsInfo}
+use Rattle.payloads.specs.declared.diagnosis.DiagnosticsInfo.{DiagnosticsInfo}
 use Rattle.peripheral_set.specs.declared.PeripheralHandle.{PeripheralHandle}
 use Rattle.master.specs.declared.unit.DpMaster.{DpMaster}
 use Rattle.access.specs.Lookup.{foundIn, diagNumber, extendedSeen, lastOf}

@@ -1,11 +1,11 @@
 -- The listing of the set in a lent list of entries.
 -- From 01, "iter" (occupied slots in rising order; their count is returned, the rest unchanged) and "Refusal numbers", No. 2 (list under 32 entries).
 use mathlib.Core.Path.{_≡_}
+use mathlib.Core.Bool.{cond}
 use Prim.Native.Nat.{ℕ}
 use mathlib.Core.List.{List, [], _++_, map}
 use lib.ListN.{length, drop}
 use lib.Dec.{leb}
-use Rattle.parts.specs.Parts.{pick}
 use Rattle.peripheral_set.specs.declared.Entry.{Entry}
 use Rattle.peripheral_set.specs.Marks.{slots, listed}
 use Rattle.cycle.specs.Refusal.{unless}
@@ -23,7 +23,7 @@ listRefusal room = unless (leb slots room) 2 0
 
 -- what is written into a list of so many entries: all of them, or nothing where it is refused
 abbrev pub shown : DpMaster → ℕ → List Entry
-shown m room = pick (leb slots room) (entries m) []
+shown m room = cond (leb slots room) (entries m) []
 
 abbrev pub listedIn : DpMaster → ℕ → Listed
 listedIn m room = record { refusal = listRefusal room; count = length (shown m room) }

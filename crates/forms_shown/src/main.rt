@@ -4,10 +4,10 @@ ghost use Prim.Native.Nat.{_≤_};
 use fdl::parameters::Parameters;
 use forms::listing::Listed;
 use master::unit::DpMaster;
+use payloads::diagnosis::DiagnosticsInfo;
 use peripheral::record::Peripheral;
 use peripheral_set::Entry;
 use peripheral_set::PeripheralHandle;
-use telegrams::diagnosis::DiagnosticsInfo;
 
 fn wide(n: u8) -> u64 {
     n as u64

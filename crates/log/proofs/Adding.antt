@@ -14,7 +14,7 @@ use borrow.Author.Tests.{eq-eqb, not-true, not-false}
 use Rattle.parts.specs.Parts.{part, roomFor, zeros}
 use Rattle.parts.proofs.Laws.{inside-yes, room-yes, part-put, part-put-other, length-put}
 use Rattle.peripheral.specs.declared.record.Peripheral.{Peripheral}
-use Rattle.peripheral.specs.Record.{newOf, inputImage}
+use Rattle.peripheral.specs.Record.{newBalance, inputImage}
 use Rattle.peripheral_set.specs.Marks.{slots, firstEmpty}
 use Rattle.peripheral_set.proofs.Laws.{search-found, search-first}
 use Rattle.cycle.specs.declared.refusal.Lent.{Lent}
@@ -49,7 +49,7 @@ module _ (w : World) (l : List Entry) (i : Inv w l) (a : Addition) (user config 
   t = firstEmpty (w .unit .occupied)
 
   fresh : Peripheral
-  fresh = newOf (a .address) (optionsHeld (a .options) sizes) (rangesAt (w .unit .used) sizes)
+  fresh = newBalance (a .address) (optionsHeld (a .options) sizes) (rangesAt (w .unit .used) sizes)
 
   lengths : Lent
   lengths =

@@ -25,7 +25,7 @@ use Rattle.master.specs.Add.{Adding}
 use Rattle.master.specs.Turn.{Turned}
 use Rattle.master.specs.Reply.{Received}
 use Rattle.master.specs.Handle.{resetDone, wishDone}
-use Rattle.access.specs.Lookup.{inputNumber, outputNumber, inputsSeen, outputsSeen, Wrote}
+use Rattle.access.specs.Lookup.{inputNumber, outputNumber, inputsSeen, outputsSeen, OutputsWritten}
 use Rattle.log.specs.Calls.{World, Call, Outcome, Pools, lend, back, enter, hand, number, unitIs, outputsAre, step}
 use Rattle.log.specs.Words.{Entry, slotLog, imageOf}
 use Rattle.log.specs.Run.{Run, after, run}
@@ -48,7 +48,7 @@ receiving : (m n : DpMaster) (address : ℕ) (t : Telegram) (payload i j d q out
     → Received m address t payload i d outInputs outDiags r → Received n address t payload j q outInputs outDiags r
 receiving m n address t payload i j d q outInputs outDiags r em ei ed c = rw (em, ei, ed) c
 
-writing : (m n : DpMaster) (h : PeripheralHandle) (bytes o p out : List ℕ) (r : ℕ) → n ≡ m → p ≡ o → Wrote m h bytes o out r → Wrote n h bytes p out r
+writing : (m n : DpMaster) (h : PeripheralHandle) (bytes o p out : List ℕ) (r : ℕ) → n ≡ m → p ≡ o → OutputsWritten m h bytes o out r → OutputsWritten n h bytes p out r
 writing m n h bytes o p out r em eo c = rw (em, eo) c
 
 entering : (w : World) (o : OperatingState) (z m : DpMaster) → w .unit ≡ m → z ≡ stateIs (entered o (m .state)) m → step w (enter o) ≡ record { world = unitIs z w; answer = number 0 }

@@ -5,16 +5,16 @@ use Prim.Native.Nat.{ℕ}
 use mathlib.Core.List.{[], _∷_}
 use lib.Dec.{T}
 use Rattle.parts.specs.Parts.{inside, part, splice, roomFor, putIn}
-use Rattle.fdl.specs.Params.{inRange, held}
-use Rattle.telegrams.specs.Diagnosis.{diagnosisOf}
-use Rattle.telegrams.specs.Payload.{paramHead, controlPayload}
+use Rattle.fdl.specs.Params.{inRange, inForce}
+use Rattle.payloads.specs.Diagnosis.{diagnosisOf}
+use Rattle.payloads.specs.Payload.{paramHead, controlPayload}
 use Rattle.station.specs.Record.{tookOf}
 use Rattle.station.specs.Visit.{wishOf}
 use Rattle.station.specs.Reply.{byFlags, heardOf}
 use Rattle.peripheral.specs.Visit.{payloadOf}
 use Rattle.peripheral.specs.Reply.{storedLength, diagsTaken, stationTook, isImage, hearsOf}
 use Rattle.peripheral_set.specs.Marks.{slots, searchFrom}
-use Rattle.cycle.specs.State.{dueOf}
+use Rattle.cycle.specs.State.{controlDue}
 use Rattle.cycle.specs.Refusal.{turnRefusal, replyRefusal, addressRefusal, lengthRefusal, roomRefusal, addRefusal}
 use Rattle.master.specs.Turn.{sweepFrom, sweptBy, turnPayload, turnAnswer}
 use Rattle.master.specs.Reply.{replyAt}
@@ -28,15 +28,15 @@ use Rattle.log.specs.Promises.{imageIn}
 use Rattle.log.specs.Life.{bench, benchPools, turnAt, configured, exchanged, answersTo, afterAll, firstHalf, secondHalf, firstAnswers, secondAnswers, smallBench, noPools, twoBalances, twoAnswers}
 
 pub first-half : answersTo (run bench benchPools [] .world) firstHalf ≡ firstAnswers
-unfolding step inRange held createdOf emptyUnit addRefusal addressRefusal lengthRefusal roomRefusal searchFrom turnRefusal dueOf wishOf sweptBy sweepFrom turnPayload turnAnswer controlPayload payloadOf paramHead inside part splice roomFor putIn replyRefusal replyAt hearsOf heardOf stationTook storedLength diagsTaken diagnosisOf tookOf isImage byFlags resetDone wishDone foundIn writeRefusal
+unfolding step inRange inForce createdOf emptyUnit addRefusal addressRefusal lengthRefusal roomRefusal searchFrom turnRefusal controlDue wishOf sweptBy sweepFrom turnPayload turnAnswer controlPayload payloadOf paramHead inside part splice roomFor putIn replyRefusal replyAt hearsOf heardOf stationTook storedLength diagsTaken diagnosisOf tookOf isImage byFlags resetDone wishDone foundIn writeRefusal
 first-half = refl
 
 pub second-half : answersTo (afterAll (run bench benchPools [] .world) firstHalf) secondHalf ≡ secondAnswers
-unfolding step inRange held createdOf emptyUnit addRefusal addressRefusal lengthRefusal roomRefusal searchFrom turnRefusal dueOf wishOf sweptBy sweepFrom turnPayload turnAnswer controlPayload payloadOf paramHead inside part splice roomFor putIn replyRefusal replyAt hearsOf heardOf stationTook storedLength diagsTaken diagnosisOf tookOf isImage byFlags resetDone wishDone foundIn writeRefusal
+unfolding step inRange inForce createdOf emptyUnit addRefusal addressRefusal lengthRefusal roomRefusal searchFrom turnRefusal controlDue wishOf sweptBy sweepFrom turnPayload turnAnswer controlPayload payloadOf paramHead inside part splice roomFor putIn replyRefusal replyAt hearsOf heardOf stationTook storedLength diagsTaken diagnosisOf tookOf isImage byFlags resetDone wishDone foundIn writeRefusal
 second-half = refl
 
 pub two-lives : answersTo (run smallBench noPools [] .world) twoBalances ≡ twoAnswers
-unfolding step inRange held createdOf emptyUnit addRefusal addressRefusal lengthRefusal roomRefusal searchFrom turnRefusal dueOf wishOf sweptBy sweepFrom turnPayload turnAnswer controlPayload payloadOf paramHead inside part splice roomFor putIn replyRefusal replyAt hearsOf heardOf stationTook storedLength diagsTaken diagnosisOf tookOf isImage byFlags resetDone wishDone foundIn writeRefusal
+unfolding step inRange inForce createdOf emptyUnit addRefusal addressRefusal lengthRefusal roomRefusal searchFrom turnRefusal controlDue wishOf sweptBy sweepFrom turnPayload turnAnswer controlPayload payloadOf paramHead inside part splice roomFor putIn replyRefusal replyAt hearsOf heardOf stationTook storedLength diagsTaken diagnosisOf tookOf isImage byFlags resetDone wishDone foundIn writeRefusal
 two-lives = refl
 
 -- there are 32 slots
@@ -46,14 +46,14 @@ thirty-two = refl
 -- what stands in the pools at the end
 pub pools-then : _≡_ {A = Pools} (afterAll (afterAll (run bench benchPools [] .world) firstHalf) secondHalf .pools)
     (record { setup = 0 ∷ 1 ∷ 2 ∷ 0x31 ∷ []; inputs = 11 ∷ 22 ∷ []; outputs = 9 ∷ 6 ∷ []; diags = 0xAA ∷ 0xBB ∷ 0 ∷ 0 ∷ 0 ∷ 0 ∷ 0 ∷ 0 ∷ [] })
-unfolding step inRange held createdOf emptyUnit addRefusal addressRefusal lengthRefusal roomRefusal searchFrom turnRefusal dueOf wishOf sweptBy sweepFrom turnPayload turnAnswer controlPayload payloadOf paramHead inside part splice roomFor putIn replyRefusal replyAt hearsOf heardOf stationTook storedLength diagsTaken diagnosisOf tookOf isImage byFlags resetDone wishDone foundIn writeRefusal
+unfolding step inRange inForce createdOf emptyUnit addRefusal addressRefusal lengthRefusal roomRefusal searchFrom turnRefusal controlDue wishOf sweptBy sweepFrom turnPayload turnAnswer controlPayload payloadOf paramHead inside part splice roomFor putIn replyRefusal replyAt hearsOf heardOf stationTook storedLength diagsTaken diagnosisOf tookOf isImage byFlags resetDone wishDone foundIn writeRefusal
 pools-then = refl
 
 -- what is promised happens: a balance is reached and asked for data, and its image is what it sent
 pub life-asked : let a = turnOf (step (run bench benchPools configured .world) (turnAt 9) .answer) in T (reached (run bench benchPools configured .log) a 0) × T (asksData 0 (a .transmission))
-unfolding step inRange held createdOf emptyUnit addRefusal addressRefusal lengthRefusal roomRefusal searchFrom turnRefusal dueOf wishOf sweptBy sweepFrom turnPayload turnAnswer controlPayload payloadOf paramHead inside part splice roomFor putIn replyRefusal replyAt hearsOf heardOf stationTook storedLength diagsTaken diagnosisOf tookOf isImage byFlags resetDone wishDone foundIn writeRefusal
+unfolding step inRange inForce createdOf emptyUnit addRefusal addressRefusal lengthRefusal roomRefusal searchFrom turnRefusal controlDue wishOf sweptBy sweepFrom turnPayload turnAnswer controlPayload payloadOf paramHead inside part splice roomFor putIn replyRefusal replyAt hearsOf heardOf stationTook storedLength diagsTaken diagnosisOf tookOf isImage byFlags resetDone wishDone foundIn writeRefusal
 life-asked = (tt, tt)
 
 pub life-exchanged : imageIn (run bench benchPools exchanged .world) 0 ≡ 11 ∷ 22 ∷ []
-unfolding step inRange held createdOf emptyUnit addRefusal addressRefusal lengthRefusal roomRefusal searchFrom turnRefusal dueOf wishOf sweptBy sweepFrom turnPayload turnAnswer controlPayload payloadOf paramHead inside part splice roomFor putIn replyRefusal replyAt hearsOf heardOf stationTook storedLength diagsTaken diagnosisOf tookOf isImage byFlags resetDone wishDone foundIn writeRefusal
+unfolding step inRange inForce createdOf emptyUnit addRefusal addressRefusal lengthRefusal roomRefusal searchFrom turnRefusal controlDue wishOf sweptBy sweepFrom turnPayload turnAnswer controlPayload payloadOf paramHead inside part splice roomFor putIn replyRefusal replyAt hearsOf heardOf stationTook storedLength diagsTaken diagnosisOf tookOf isImage byFlags resetDone wishDone foundIn writeRefusal
 life-exchanged = refl

@@ -1,7 +1,7 @@
 -- The promises, proved: over every creation, every contents of the pools and every list of calls.
 -- The idea: the invariant holds of a fresh unit and an empty log, each accepted call keeps it, and a refused one changes nothing.
 use mathlib.Core.Path.{_≡_, refl, sym, ap, _∙_, subst}
-use mathlib.Core.Bool.{Bool, true, false, not, _&&_, false≢true}
+use mathlib.Core.Bool.{Bool, true, false, not, _&&_, false≢true, cond}
 use mathlib.Core.Logic.{_↔_}
 use mathlib.Core.List.{List, [], _∷_}
 use mathlib.Core.Option.{some, Option·none-ne-some}
@@ -11,10 +11,9 @@ use lib.ListN.{length, getD, replicate, length-replicate, getD-replicate, List·
 use lib.Dec.{T, eqb, ltb, leb}
 use lib.Pow.{pow-pos}
 use borrow.Author.Tests.{eqb-true, eq-eqb, ltb-true, ltb-false, lt-ltb}
-use Rattle.parts.specs.Parts.{pick}
 use Rattle.parts.proofs.Laws.{by-test, and-right, and-false}
 use Rattle.fdl.specs.declared.parameters.Parameters.{Parameters}
-use Rattle.fdl.specs.Params.{inRange, held, lowest}
+use Rattle.fdl.specs.Params.{inRange, inForce, lowest}
 use Rattle.peripheral_set.specs.Marks.{slots, isOccupied}
 use Rattle.answers.specs.Turn.{refusedTurn}
 use Rattle.master.specs.Unit.{emptyUnit, createdOf}
@@ -59,7 +58,7 @@ inv-empty u pools v =
 
 inv-fresh : (u : Parameters) (pools : Pools) → Valid (createdOf u .master) → Inv (record { unit = createdOf u .master; pools = pools }) []
 unfolding createdOf
-inv-fresh u pools v = by-test (inRange u) (λ e. rw e (inv-empty (held u) pools (rw e at v))) (λ e. rw e (inv-empty lowest pools (rw e at v)))
+inv-fresh u pools v = by-test (inRange u) (λ e. rw e (inv-empty (inForce u) pools (rw e at v))) (λ e. rw e (inv-empty lowest pools (rw e at v)))
 
 -- ---- an accepted call
 
@@ -97,7 +96,7 @@ module _ (w : World) (l : List Entry) (i : Inv w l) where
   kept (hand h bytes nq) e v = inv-hand w l i h bytes nq _ _
 
   -- any call
-  any-call : (c : Call) (b : Bool) → accepted (step w c .answer) ≡ b → Inv (step w c .world) (pick b (record { call = c; answer = step w c .answer } ∷ l) l)
+  any-call : (c : Call) (b : Bool) → accepted (step w c .answer) ≡ b → Inv (step w c .world) (cond b (record { call = c; answer = step w c .answer } ∷ l) l)
   any-call c true e = kept c e (valid-step w c (i .valid))
   any-call c false e = subst (λ (x : World). Inv x l) (sym (refused-same w c e)) i
 
@@ -124,7 +123,7 @@ unfolding foundIn
 found-there m v h o = let b = lt-ltb (h .slot) slots (marked-below m v (h .slot) o) in rw (b, o) refl
 
 -- what `pi_i` hands out where its number is 0
-both-hold : (a b : Bool) → _≡_ {A = ℕ} (pick a (pick b 0 4) 2) 0 → (a ≡ true) × (b ≡ true)
+both-hold : (a b : Bool) → _≡_ {A = ℕ} (cond a (cond b 0 4) 2) 0 → (a ≡ true) × (b ≡ true)
 both-hold true true e = (refl, refl)
 both-hold true false e = absurd (omega arith)
 both-hold false b e = absurd (omega arith)

@@ -2,32 +2,31 @@
 -- The idea: the notes come into it as a few Bools (parameters, configuration, ready, due), and each row of the tables of visits and replies is one line.
 use mathlib.Core.Path.{_≡_, refl, sym, ap, _∙_, subst}
 use Prim.Native.Nat.{ℕ}
-use mathlib.Core.Bool.{Bool, true, false, not, _&&_, _||_}
+use mathlib.Core.Bool.{Bool, true, false, not, _&&_, _||_, cond}
 use mathlib.Core.List.{List, _∷_}
 use mathlib.Core.Option.{Option, none, some}
 use lib.Dec.{T, eqb, eqb→eq}
 use lib.ListN.{length}
 use borrow.Author.Tests.{eqb-true, ltb-false, le-leb}
-use Rattle.parts.specs.Parts.{pick}
 use Rattle.parts.proofs.Laws.{by-test}
 use Rattle.fdl.specs.Reply.{statusOf, dueStatus, notEnabled as refusesData}
 use Rattle.fdl.specs.declared.telegram.ResponseStatus.{ResponseStatus}
 use Rattle.fdl.specs.declared.telegram.ResponseStatus.the-variants.{Ok, SapNotEnabled, DataLow, DataHigh, Other, Unusable}
 use Rattle.fdl.specs.declared.telegram.Telegram.{Telegram}
 use Rattle.fdl.specs.declared.telegram.Telegram.the-variants.{ShortConfirmation, Data as DataReply, Token, Request as RequestTelegram}
-use Rattle.telegrams.specs.declared.request.Request.{Request}
-use Rattle.telegrams.specs.declared.request.Request.the-variants.{Diagnosis, Parameters, Configuration, Data}
-use Rattle.telegrams.specs.Request.{kindNumber}
-use Rattle.telegrams.specs.Diagnosis.{flag, diagnosisOf, taken}
+use Rattle.payloads.specs.declared.request.Request.{Request}
+use Rattle.payloads.specs.declared.request.Request.the-variants.{Diagnosis, Parameters, Configuration, Data}
+use Rattle.payloads.specs.Request.{kindNumber}
+use Rattle.payloads.specs.Diagnosis.{flag, diagnosisOf, taken}
 use Rattle.station.specs.declared.record.Station.{Station}
 use Rattle.station.specs.declared.reply.Heard.{Heard}
 use Rattle.station.specs.declared.visit.Visited.{Visited}
-use Rattle.station.specs.declared.visit.Visited.the-variants.{Sent, Fell, Skipped}
+use Rattle.station.specs.declared.visit.Visited.the-variants.{Sends, Drops, Skips}
 use Rattle.station.specs.declared.state.PeripheralState.{PeripheralState}
 use Rattle.station.specs.declared.state.PeripheralState.the-variants.{Offline, WaitForParam, WaitForConfig, ValidateConfig, PreDataExchange, DataExchange}
-use Rattle.station.specs.declared.state.PeripheralEvent.the-variants.{Nothing, Configured, ConfigError, ParameterError}
+use Rattle.station.specs.declared.state.PeripheralEvent.the-variants.{NoEvent, Configured, ConfigError, ParameterError}
 use Rattle.station.specs.State.{stateOf}
-use Rattle.station.specs.Record.{newOf, at, counting, cycling, dueIs, tookOf}
+use Rattle.station.specs.Record.{newStation, inState, counting, cycling, dueIs, tookOf}
 use Rattle.station.specs.Visit.{wishOf, visitedOf}
 use Rattle.station.specs.Reply.{hears, isShort, acknowledgedOf, foundOf, byFlags, validatedOf, diagnosedOf, exchangedOf, statusReply, exchangeOf, heardIn, heardOf, awaitsData}
 use Rattle.station.proofs.Visits.{falls, asksData, wish-falls, wish-data}
@@ -59,10 +58,10 @@ pub record Told (s : Station) (l : List Note) : Type 0 where
 
 -- ---- added, reset, wished
 
-pub told-added : (address n : ℕ) (l : List Note) → Told (newOf address) (wasAdded n ∷ l)
+pub told-added : (address n : ℕ) (l : List Note) → Told (newStation address) (wasAdded n ∷ l)
 told-added address n l = record { due-is = refl; in-phase = tt }
 
-pub told-reset : (address : ℕ) (l : List Note) → Told (newOf address) (readdressed ∷ l)
+pub told-reset : (address : ℕ) (l : List Note) → Told (newStation address) (readdressed ∷ l)
 told-reset address l = record { due-is = refl; in-phase = tt }
 
 -- a note that is no fall, no acknowledgement, no diagnosis and no "SAP not enabled" leaves the words as they were
@@ -95,14 +94,14 @@ told-wished s l i = record { due-is = refl; in-phase = same-words (stateOf (s .s
 
 -- what it enters in the notes
 abbrev pub visitNote : Visited → List Note → List Note
-visitNote (Sent k) l = asked k ∷ l
-visitNote Fell l = wentOffline ∷ l
-visitNote Skipped l = l
+visitNote (Sends k) l = asked k ∷ l
+visitNote Drops l = wentOffline ∷ l
+visitNote Skips l = l
 
 pub told-visited : (v : Visited) (s : Station) (l : List Note) → Told s l → Told (visitedOf v s) (visitNote v l)
-told-visited (Sent k) s l i = record { due-is = i .due-is; in-phase = same-words (stateOf (s .state)) (hasParam l) (hasConfig l) (ready l) (i .in-phase) }
-told-visited Fell s l i = record { due-is = i .due-is; in-phase = tt }
-told-visited Skipped s l i = record { due-is = i .due-is; in-phase = i .in-phase }
+told-visited (Sends k) s l i = record { due-is = i .due-is; in-phase = same-words (stateOf (s .state)) (hasParam l) (hasConfig l) (ready l) (i .in-phase) }
+told-visited Drops s l i = record { due-is = i .due-is; in-phase = tt }
+told-visited Skips s l i = record { due-is = i .due-is; in-phase = i .in-phase }
 
 -- data is waited for exactly when no diagnosis is due and the notes say ready
 data-when : (x : PeripheralState) (d hp hc rd : Bool) → T (phase x hp hc rd) → awaitsData x d ≡ (not d && rd)
@@ -173,7 +172,7 @@ module _ (p s : Station) (x : PeripheralState) (d : Bool) (px : stateOf (p .stat
 
   -- the four flags as Bools
   flagged : (f g k m hp : Bool) → x ≡ ValidateConfig
-      → Kept (pick f (hears ParameterError (at Offline (counting 0 s))) (pick g (hears ConfigError (at Offline (counting 0 s))) (pick k (hears Nothing (at WaitForParam (counting 0 s))) (pick m (hears Nothing (counting 0 s)) (hears Configured (at PreDataExchange (counting 0 s))))))) false false false false (true && not f && not g && not k && not m) hp true false d
+      → Kept (cond f (hears ParameterError (inState Offline (counting 0 s))) (cond g (hears ConfigError (inState Offline (counting 0 s))) (cond k (hears NoEvent (inState WaitForParam (counting 0 s))) (cond m (hears NoEvent (counting 0 s)) (hears Configured (inState PreDataExchange (counting 0 s))))))) false false false false (true && not f && not g && not k && not m) hp true false d
   flagged true g k m hp e = record { due-ok = sd; phase-ok = tt }
   flagged false true k m hp e = record { due-ok = sd; phase-ok = tt }
   flagged false false true m hp e = record { due-ok = sd; phase-ok = tt }
@@ -270,7 +269,7 @@ module _ (p s : Station) (x : PeripheralState) (px : stateOf (p .state) ≡ x) (
 
 -- a request by its number
 named : ℕ → Option Request
-named n = pick (eqb n 1) (some Diagnosis) (pick (eqb n 2) (some Parameters) (pick (eqb n 3) (some Configuration) (pick (eqb n 4) (some Data) none)))
+named n = cond (eqb n 1) (some Diagnosis) (cond (eqb n 2) (some Parameters) (cond (eqb n 3) (some Configuration) (cond (eqb n 4) (some Data) none)))
 
 named-asked : (k : Option Request) → named (askedNumber k) ≡ k
 unfolding named

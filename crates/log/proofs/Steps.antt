@@ -1,12 +1,11 @@
 -- Refused calls leave no trace, and a unit is `Valid` after any calls.
 -- The idea: where a call is refused every field of what it leaves is the old one; and each call's contract holds of what `step` leaves, so the laws of `valid` apply.
 use mathlib.Core.Path.{_≡_, refl, sym, ap, _∙_}
-use mathlib.Core.Bool.{Bool, true, false, false≢true}
+use mathlib.Core.Bool.{Bool, true, false, false≢true, cond}
 use mathlib.Core.List.{List, [], _∷_}
 use Prim.Native.Nat.{ℕ}
 use lib.ListN.{take-append-drop}
 use lib.Dec.{eqb}
-use Rattle.parts.specs.Parts.{pick}
 use Rattle.fdl.specs.declared.parameters.Parameters.{Parameters}
 use Rattle.fdl.specs.declared.telegram.Telegram.{Telegram}
 use Rattle.peripheral.specs.declared.record.Peripheral.{Peripheral}
@@ -122,11 +121,11 @@ buffer-same w time high ns nq buf e =
 left-out : (b : Bool) (c : Call) (o : Outcome) (r : Run) → accepted (o .answer) ≡ b → b ≡ false → o .world ≡ r .world → after c o (r .log) ≡ r
 left-out true c o r e f q = absurd (false≢true (sym f))
 left-out false c o r e f q =
-    ap (λ (b : Bool). record { world = o .world; log = pick b (record { call = c; answer = o .answer } ∷ r .log) (r .log) }) e
+    ap (λ (b : Bool). record { world = o .world; log = cond b (record { call = c; answer = o .answer } ∷ r .log) (r .log) }) e
     ∙ ap (λ (w : World). record { world = w; log = r .log }) q
 
 one-more : (u : Parameters) (pools : Pools) (c : Call) (cs ds : List Call) (b : Bool) → accepted (step (run u pools cs .world) c .answer) ≡ b → run u pools ds ≡ run u pools cs
-    → run u pools (pick b (c ∷ ds) ds) ≡ run u pools (c ∷ cs)
+    → run u pools (cond b (c ∷ ds) ds) ≡ run u pools (c ∷ cs)
 one-more u pools c cs ds true e h = ap (λ (r : Run). after c (step (r .world) c) (r .log)) h
 one-more u pools c cs ds false e h = h ∙ sym (left-out _ c (step (run u pools cs .world) c) (run u pools cs) refl e (refused-same (run u pools cs .world) c e))
 

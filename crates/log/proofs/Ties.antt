@@ -3,11 +3,11 @@
 use mathlib.Core.Path.{_≡_, refl, sym, _∙_, subst}
 use Prim.Native.Nat.{ℕ, _+_, _≤_}
 use native.Mathlib.Omega.{arith}
-use mathlib.Core.Bool.{Bool, true, false, false≢true}
+use mathlib.Core.Bool.{Bool, true, false, false≢true, cond}
 use mathlib.Core.List.{List, [], _∷_}
 use lib.ListN.{length}
 use lib.Dec.{eqb}
-use Rattle.parts.specs.Parts.{pick, inside, part, splice, roomFor, putIn}
+use Rattle.parts.specs.Parts.{inside, part, splice, roomFor, putIn}
 use Rattle.parts.proofs.Laws.{by-test, inside-yes, length-part, room-yes, room-outside, put-done, put-kept, part-put}
 use Rattle.peripheral.specs.Record.{outputImage}
 use Rattle.peripheral_set.specs.Marks.{isOccupied}
@@ -28,7 +28,7 @@ use Rattle.master.specs.Add.{Adding}
 use Rattle.master.specs.Turn.{Turned}
 use Rattle.master.specs.Reply.{Received}
 use Rattle.master.specs.Handle.{resetDone, wishDone}
-use Rattle.access.specs.Lookup.{foundIn, outputsSeen, Wrote}
+use Rattle.access.specs.Lookup.{foundIn, outputsSeen, OutputsWritten}
 use Rattle.log.specs.Calls.{World, lend, back, add, enter, turn, reply, reset, wish, write, hand, number, added, turned, replied, unitIs, outputsAre, handNumber, step}
 
 module _ (w : World) where
@@ -83,7 +83,7 @@ module _ (w : World) where
   unfolding step
   wish-tied h r e = rw e refl
 
-  pub write-tied : (h : PeripheralHandle) (bytes : List ℕ) (nq : ℕ) (out : List ℕ) (r : ℕ) → Wrote (w .unit) h bytes (lend nq (w .pools .outputs)) out r
+  pub write-tied : (h : PeripheralHandle) (bytes : List ℕ) (nq : ℕ) (out : List ℕ) (r : ℕ) → OutputsWritten (w .unit) h bytes (lend nq (w .pools .outputs)) out r
       → step w (write h bytes nq)
       ≡ record {
         world =
@@ -99,8 +99,8 @@ module _ (w : World) where
   no-bytes [] l e = refl
   no-bytes (x ∷ xs) l e = absurd (omega arith)
 
-  lies-at : (ok : Bool) (at len : ℕ) (bytes lent : List ℕ) → length bytes ≡ length (pick ok (part at len lent) [])
-      → pick ok (putIn at len bytes lent) lent ≡ splice (pick ok (pick (inside at len lent) at 0) 0) bytes lent
+  lies-at : (ok : Bool) (at len : ℕ) (bytes lent : List ℕ) → length bytes ≡ length (cond ok (part at len lent) [])
+      → cond ok (putIn at len bytes lent) lent ≡ splice (cond ok (cond (inside at len lent) at 0) 0) bytes lent
   lies-at true at len bytes lent e =
       by-test (inside at len lent)
       (λ q. rw q (put-done at len bytes lent (room-yes at len bytes lent (let n : length bytes ≡ len = e ∙ length-part at len lent ∙ rw q refl in omega arith) q)))

@@ -1,7 +1,7 @@
 -- An accepted turn keeps what holds of unit and log, and asks for data exactly when the notes say so.
 -- The idea: each slot's notes gain what its own visit did; the mask, the event and what was sent are the three ways in which a turn's answer says it.
 use mathlib.Core.Path.{_≡_, refl, sym, ap, _∙_, subst}
-use mathlib.Core.Bool.{Bool, true, false, not, _&&_, _||_, false≢true}
+use mathlib.Core.Bool.{Bool, true, false, not, _&&_, _||_, false≢true, cond}
 use mathlib.Core.Logic.{_⊎_, ⊎-elim}
 use mathlib.Core.List.{List, _∷_}
 use mathlib.Core.Option.{Option, none, some, Option·none-ne-some}
@@ -10,15 +10,14 @@ use native.Mathlib.Omega.{arith}
 use lib.ListN.{getD}
 use lib.Dec.{T, eqb, ltb, leb}
 use borrow.Author.Tests.{eqb-true, eq-eqb, ne-eqb, lt-leb, lt-ltb}
-use Rattle.parts.specs.Parts.{pick}
 use Rattle.parts.proofs.Laws.{by-test, and-false}
 use Rattle.fdl.specs.declared.parameters.Parameters.{Parameters}
-use Rattle.telegrams.specs.declared.request.Request.{Request}
-use Rattle.telegrams.specs.declared.request.Request.the-variants.{Diagnosis, Parameters as ParameterRequest, Configuration, Data}
-use Rattle.telegrams.specs.Request.{kindNumber}
+use Rattle.payloads.specs.declared.request.Request.{Request}
+use Rattle.payloads.specs.declared.request.Request.the-variants.{Diagnosis, Parameters as ParameterRequest, Configuration, Data}
+use Rattle.payloads.specs.Request.{kindNumber}
 use Rattle.station.specs.declared.visit.Visited.{Visited}
-use Rattle.station.specs.declared.visit.Visited.the-variants.{Sent as Sends, Fell, Skipped}
-use Rattle.station.specs.declared.state.PeripheralEvent.the-variants.{Nothing as NoEvent, Offline as WentOffline}
+use Rattle.station.specs.declared.visit.Visited.the-variants.{Sends, Drops, Skips}
+use Rattle.station.specs.declared.state.PeripheralEvent.the-variants.{NoEvent, Offline as WentOffline}
 use Rattle.station.specs.State.{stateOf}
 use Rattle.station.specs.Visit.{visitedOf}
 use Rattle.station.proofs.Visits.{falls, wish-falls, asksData as wantsData}
@@ -28,14 +27,14 @@ use Rattle.peripheral.specs.Visit.{wishesOf}
 use Rattle.peripheral_set.specs.Marks.{slots}
 use Rattle.cycle.specs.declared.seen.Seen.{Seen}
 use Rattle.cycle.specs.declared.seen.Sent.{Sent}
-use Rattle.cycle.specs.declared.seen.Sent.the-variants.{Nothing, To}
+use Rattle.cycle.specs.declared.seen.Sent.the-variants.{Nobody, To}
 use Rattle.cycle.specs.declared.state.DpMasterState.{DpMasterState}
 use Rattle.cycle.specs.declared.state.OperatingState.{OperatingState}
 use Rattle.cycle.specs.declared.state.OperatingState.the-variants.{Stop, Clear, Operate}
 use Rattle.cycle.specs.declared.state.Step.{Step}
-use Rattle.cycle.specs.declared.state.Step.the-variants.{Stop as Stopped, Control, Back, Visits}
+use Rattle.cycle.specs.declared.state.Step.the-variants.{Halt, Control, Back, Visits}
 use Rattle.cycle.specs.Seen.{nothingSeen, idle}
-use Rattle.cycle.specs.State.{operatingOf, dueOf as controlDue, stepOf, startOf, afterTurn}
+use Rattle.cycle.specs.State.{operatingOf, controlDue, stepOf, startOf, afterTurn}
 use Rattle.answers.specs.Turn.{transmissionOf, visitsTransmit, completesOf, fellEvent, handleOf}
 use Rattle.master.specs.declared.unit.DpMaster.{DpMaster}
 use Rattle.master.specs.Turn.{sweepFrom, stepAt, sweptBy, unitTurned, askedIn, turnAnswer}
@@ -64,7 +63,7 @@ module _ (seen : Seen) (f : Firsts slots seen) where
   fell : T (isOffline (fellEvent (seen .first))) → Lowest slots seen
   fell t = ⊎-elim (λ e. absurd (rw (e .0) at t)) (λ k. k) (f .either)
 
-  event-is : fellEvent (seen .first) ≡ pick (eqb (seen .mask) 0) NoEvent WentOffline
+  event-is : fellEvent (seen .first) ≡ cond (eqb (seen .mask) 0) NoEvent WentOffline
   event-is = ⊎-elim (λ e. rw (e .0, e .1) refl) (λ k. rw (not-none k, not-empty k) refl) (f .either)
 
   event-own : (address : ℕ) → T (isOffline (fellEvent (seen .first))) → T (bitSet (handleOf (seen .first) address .slot) (seen .mask))
@@ -85,17 +84,17 @@ module _ (seen : Seen) (f : Firsts slots seen) where
       (f .either)
 
 -- a visit keeps the address
-address-kept : (b : Bool) (v : Visited) (p : Peripheral) → pick b (stationIs (visitedOf v (p .station)) p) p .station .address ≡ p .station .address
+address-kept : (b : Bool) (v : Visited) (p : Peripheral) → cond b (stationIs (visitedOf v (p .station)) p) p .station .address ≡ p .station .address
 address-kept false v p = refl
 address-kept true (Sends k) p = refl
-address-kept true Fell p = refl
-address-kept true Skipped p = refl
+address-kept true Drops p = refl
+address-kept true Skips p = refl
 
 pub is-true : (b : Bool) → T b → b ≡ true
 is-true true h = refl
 is-true false h = absurd h
 
-one-or-none : (b : Bool) → eqb (pick b 1 0) 1 ≡ b
+one-or-none : (b : Bool) → eqb (cond b 1 0) 1 ≡ b
 one-or-none true = refl
 one-or-none false = refl
 
@@ -105,15 +104,15 @@ noteKind none l = l
 noteKind (some k) l = asked k ∷ l
 
 visits-noted : (sent : Sent) (p : Peripheral) (u : Parameters) (s : ℕ) (l : List Note) → noteAsked s (visitsTransmit sent p u) l ≡ noteKind (kindSent s sent) l
-visits-noted Nothing p u s l = refl
+visits-noted Nobody p u s l = refl
 visits-noted (To t k) p u s l = by-test (eqb s t) (λ e. rw e refl) (λ e. rw e refl)
 
 visits-went : (sent : Sent) (p : Peripheral) (u : Parameters) (s : ℕ) → upTo s (idle sent) (visitsTransmit sent p u) ≡ wentTo s sent
-visits-went Nothing p u s = refl
+visits-went Nobody p u s = refl
 visits-went (To t k) p u s = refl
 
 visits-asked : (sent : Sent) (p : Peripheral) (u : Parameters) (s : ℕ) → asksData s (visitsTransmit sent p u) ≡ isKind Data (kindSent s sent)
-visits-asked Nothing p u s = refl
+visits-asked Nobody p u s = refl
 visits-asked (To t k) p u s = by-test (eqb s t) (λ e. rw e refl) (λ e. rw e refl)
 
 -- ---- the place
@@ -124,54 +123,54 @@ place-turned : (o : OperatingState) (due past : Bool) (sent : Sent) (p : Periphe
 place-turned Stop due past sent p u time s = refl
 place-turned Clear true past sent p u time s = refl
 place-turned Clear false true sent p u time s = refl
-place-turned Clear false false Nothing p u time s = refl
+place-turned Clear false false Nobody p u time s = refl
 place-turned Clear false false (To t k) p u time s = refl
 place-turned Operate true past sent p u time s = refl
 place-turned Operate false true sent p u time s = refl
-place-turned Operate false false Nothing p u time s = refl
+place-turned Operate false false Nobody p u time s = refl
 place-turned Operate false false (To t k) p u time s = refl
 
 mode-kept : (step : Step) (sent : Sent) (time : ℕ) (s : DpMasterState) → afterTurn step sent time s .operating ≡ s .operating
-mode-kept Stopped sent time s = refl
+mode-kept Halt sent time s = refl
 mode-kept Control sent time s = refl
 mode-kept Back sent time s = refl
-mode-kept Visits Nothing time s = refl
+mode-kept Visits Nobody time s = refl
 mode-kept Visits (To t k) time s = refl
 
 -- ---- one slot
 
 module _ (v : Visited) (p q : Peripheral) (l : List Note) where
   -- its station and its notes
-  told-by : (b : Bool) → q ≡ pick b (stationIs (visitedOf v (p .station)) p) p → Told (p .station) l
-      → Told (q .station) (pick (b && falls v) (wentOffline ∷ l) (noteKind (pick b (kindOf v) none) l))
+  told-by : (b : Bool) → q ≡ cond b (stationIs (visitedOf v (p .station)) p) p → Told (p .station) l
+      → Told (q .station) (cond (b && falls v) (wentOffline ∷ l) (noteKind (cond b (kindOf v) none) l))
   told-by false e i = rw e i
   told-by true e i = rw e (by-visit v (told-visited v (p .station) l i))
     where
-      by-visit : (v : Visited) → Told (visitedOf v (p .station)) (visitNote v l) → Told (visitedOf v (p .station)) (pick (falls v) (wentOffline ∷ l) (noteKind (kindOf v) l))
+      by-visit : (v : Visited) → Told (visitedOf v (p .station)) (visitNote v l) → Told (visitedOf v (p .station)) (cond (falls v) (wentOffline ∷ l) (noteKind (kindOf v) l))
       by-visit (Sends k) t = t
-      by-visit Fell t = t
-      by-visit Skipped t = t
+      by-visit Drops t = t
+      by-visit Skips t = t
 
   -- its image
-  image-by : (b : Bool) (inputs : List ℕ) → q ≡ pick b (stationIs (visitedOf v (p .station)) p) p → inputImage p inputs ≡ imageOf l
-      → inputImage q inputs ≡ imageOf (pick (b && falls v) (wentOffline ∷ l) (noteKind (pick b (kindOf v) none) l))
+  image-by : (b : Bool) (inputs : List ℕ) → q ≡ cond b (stationIs (visitedOf v (p .station)) p) p → inputImage p inputs ≡ imageOf l
+      → inputImage q inputs ≡ imageOf (cond (b && falls v) (wentOffline ∷ l) (noteKind (cond b (kindOf v) none) l))
   image-by false inputs e i = rw e i
   image-by true inputs e i = rw e (i ∙ by-visit v)
     where
-      by-visit : (v : Visited) → imageOf l ≡ imageOf (pick (falls v) (wentOffline ∷ l) (noteKind (kindOf v) l))
+      by-visit : (v : Visited) → imageOf l ≡ imageOf (cond (falls v) (wentOffline ∷ l) (noteKind (kindOf v) l))
       by-visit (Sends k) = refl
-      by-visit Fell = refl
-      by-visit Skipped = refl
+      by-visit Drops = refl
+      by-visit Skips = refl
 
   -- the request that went to it
-  kind-by : (b : Bool) (k : Request) → some k ≡ pick b (kindOf v) none → askedNumber (lastAsked (pick (b && falls v) (wentOffline ∷ l) (noteKind (pick b (kindOf v) none) l))) ≡ kindNumber k
+  kind-by : (b : Bool) (k : Request) → some k ≡ cond b (kindOf v) none → askedNumber (lastAsked (cond (b && falls v) (wentOffline ∷ l) (noteKind (cond b (kindOf v) none) l))) ≡ kindNumber k
   kind-by false k z = absurd (Option·none-ne-some k (sym z))
   kind-by true k z = by-visit v z
     where
-      by-visit : (v : Visited) → some k ≡ kindOf v → askedNumber (lastAsked (pick (falls v) (wentOffline ∷ l) (noteKind (kindOf v) l))) ≡ kindNumber k
+      by-visit : (v : Visited) → some k ≡ kindOf v → askedNumber (lastAsked (cond (falls v) (wentOffline ∷ l) (noteKind (kindOf v) l))) ≡ kindNumber k
       by-visit (Sends r) z = ap askedNumber (sym z)
-      by-visit Fell z = absurd (Option·none-ne-some k (sym z))
-      by-visit Skipped z = absurd (Option·none-ne-some k (sym z))
+      by-visit Drops z = absurd (Option·none-ne-some k (sym z))
+      by-visit Skips z = absurd (Option·none-ne-some k (sym z))
 
 -- ---- the turn
 
@@ -183,7 +182,7 @@ module _ (w : World) (l : List Entry) (i : Inv w l) where
       all-visits (w .unit .parameters .«max_retry_limit») (w .unit .occupied) (startOf step (w .unit .state)) s (w .unit .peripherals) h (omega (arith, i .valid .table)) o
 
   starts : (step : Step) → startOf step (w .unit .state) ≤ slots
-  starts Stopped = omega arith
+  starts Halt = omega arith
   starts Control = omega arith
   starts Back = omega arith
   starts Visits = omega (arith, i .valid .standing .place)
@@ -196,7 +195,7 @@ module _ (w : World) (l : List Entry) (i : Inv w l) where
   steps-noted : (step : Step) (p : Peripheral) (u : Parameters) (s : ℕ) (n : List Note)
       → noteAsked s (transmissionOf step (sweptBy step (w .unit) .seen .sent) p u) n ≡ noteKind (kindSent s (sweptBy step (w .unit) .seen .sent)) n
   unfolding sweptBy sweepFrom
-  steps-noted Stopped p u s n = refl
+  steps-noted Halt p u s n = refl
   steps-noted Control p u s n = refl
   steps-noted Back p u s n = refl
   steps-noted Visits p u s n = visits-noted (sweptBy Visits (w .unit) .seen .sent) p u s n
@@ -210,15 +209,15 @@ module _ (w : World) (l : List Entry) (i : Inv w l) where
         ∙ (rw (swung step s o .mask) (one-or-none (swung step s o .visited && falls (wishesOf (w .unit .parameters .«max_retry_limit») (balance (w .unit) s)))))
 
     sent-noted : (s : ℕ) (o : occupied (w .unit) s) (n : List Note)
-        → noteAsked s (turnAnswer step (sweptBy step (w .unit)) (w .unit) payload buf .transmission) n ≡ noteKind (pick (swung step s o .visited) (kindOf (wishesOf (w .unit .parameters .«max_retry_limit») (balance (w .unit) s))) none) n
+        → noteAsked s (turnAnswer step (sweptBy step (w .unit)) (w .unit) payload buf .transmission) n ≡ noteKind (cond (swung step s o .visited) (kindOf (wishesOf (w .unit .parameters .«max_retry_limit») (balance (w .unit) s))) none) n
     unfolding turnAnswer
     sent-noted s o n = steps-noted step (askedIn (sweptBy step (w .unit))) (w .unit .parameters) s n ∙ ap (λ (k : Option Request). noteKind k n) (swung step s o .kind)
 
     -- the notes of a slot after the turn
     notes-are : (s : ℕ) (o : occupied (w .unit) s) (n : List Note)
-        → pick (reportedOffline s (turnAnswer step (sweptBy step (w .unit)) (w .unit) payload buf)) (wentOffline ∷ n) (noteAsked s (turnAnswer step (sweptBy step (w .unit)) (w .unit) payload buf .transmission) n)
-        ≡ pick (swung step s o .visited && falls (wishesOf (w .unit .parameters .«max_retry_limit») (balance (w .unit) s))) (wentOffline ∷ n) (noteKind (pick (swung step s o .visited) (kindOf (wishesOf (w .unit .parameters .«max_retry_limit») (balance (w .unit) s))) none) n)
-    notes-are s o n = rw (reported s o) (ap (λ (y : List Note). pick (swung step s o .visited && falls (wishesOf (w .unit .parameters .«max_retry_limit») (balance (w .unit) s))) (wentOffline ∷ n) y) (sent-noted s o n))
+        → cond (reportedOffline s (turnAnswer step (sweptBy step (w .unit)) (w .unit) payload buf)) (wentOffline ∷ n) (noteAsked s (turnAnswer step (sweptBy step (w .unit)) (w .unit) payload buf .transmission) n)
+        ≡ cond (swung step s o .visited && falls (wishesOf (w .unit .parameters .«max_retry_limit») (balance (w .unit) s))) (wentOffline ∷ n) (noteKind (cond (swung step s o .visited) (kindOf (wishesOf (w .unit .parameters .«max_retry_limit») (balance (w .unit) s))) none) n)
+    notes-are s o n = rw (reported s o) (ap (λ (y : List Note). cond (swung step s o .visited && falls (wishesOf (w .unit .parameters .«max_retry_limit») (balance (w .unit) s))) (wentOffline ∷ n) y) (sent-noted s o n))
 
   -- the request that the turn opened
   kind-here : (t : ℕ) (k : Request) (sent : Sent) (r : Option Request) → sent ≡ To t k → kindSent t sent ≡ r → some k ≡ r
@@ -244,10 +243,10 @@ module _ (w : World) (l : List Entry) (i : Inv w l) where
     link-turn : (step : Step) (sent : Sent) → sweptBy step (w .unit) .seen .sent ≡ sent
         → let m : DpMaster = stateIs (afterTurn step sent time (w .unit .state)) (balancesAre (sweptBy step (w .unit) .balances) (w .unit)) in
         Valid m → eqb (m .state .«open_kind») 0 ≡ false → Link m (entry step ∷ l)
-    link-turn Stopped sent e v c = absurd (false≢true (sym c))
+    link-turn Halt sent e v c = absurd (false≢true (sym c))
     link-turn Control sent e v c = absurd (false≢true (sym c))
     link-turn Back sent e v c = absurd (false≢true (sym c))
-    link-turn Visits Nothing e v c = absurd (false≢true (sym c))
+    link-turn Visits Nobody e v c = absurd (false≢true (sym c))
     link-turn Visits (To t k) e v c =
         record {
           aimed = target-open t k e;
@@ -287,7 +286,7 @@ module _ (w : World) (l : List Entry) (i : Inv w l) where
 
   went-far : (step : Step) (s : ℕ) (o : occupied (w .unit) s) → let y = sweptBy step (w .unit) in
       (leb (w .unit .state .slot) s && upTo s (completesOf step (y .seen .sent)) (transmissionOf step (y .seen .sent) (askedIn y) (w .unit .parameters))) ≡ swung step s o .visited
-  went-far Stopped s o = and-false (leb (w .unit .state .slot) s) false refl ∙ sym (nobody Stopped s o (lt-leb slots s (marked-below (w .unit) (i .valid) s o)))
+  went-far Halt s o = and-false (leb (w .unit .state .slot) s) false refl ∙ sym (nobody Halt s o (lt-leb slots s (marked-below (w .unit) (i .valid) s o)))
   went-far Control s o = and-false (leb (w .unit .state .slot) s) false refl ∙ sym (nobody Control s o (lt-leb slots s (marked-below (w .unit) (i .valid) s o)))
   went-far Back s o = and-false (leb (w .unit .state .slot) s) false refl ∙ sym (nobody Back s o (lt-leb slots s (marked-below (w .unit) (i .valid) s o)))
   went-far Visits s o =
@@ -306,7 +305,7 @@ module _ (w : World) (l : List Entry) (i : Inv w l) where
     reached-asked : (s : ℕ) (k : Request) (o : occupied (w .unit) s) → sweptBy step (w .unit) .seen .sent ≡ To s k → reached l (turnAnswer step (sweptBy step (w .unit)) (w .unit) payload buf) s ≡ true
     reached-asked s k o e = reached-visited s o ∙ sends (swung step s o .visited) _ (kind-here s k (sweptBy step (w .unit) .seen .sent) _ e (swung step s o .kind))
       where
-        sends : (b : Bool) (r : Option Request) → some k ≡ pick b r none → b ≡ true
+        sends : (b : Bool) (r : Option Request) → some k ≡ cond b r none → b ≡ true
         sends true r q = refl
         sends false r q = absurd (Option·none-ne-some k (sym q))
 
@@ -319,14 +318,14 @@ module _ (w : World) (l : List Entry) (i : Inv w l) where
   pub asked-reached : (step : Step) (payload buf : List ℕ) (time s : ℕ) → Valid (unitTurned step (sweptBy step (w .unit)) time (w .unit)) → let a = turnAnswer step (sweptBy step (w .unit)) (w .unit) payload buf in
       slotAsked (a .transmission) ≡ some s → reached l a s ≡ true
   unfolding turnAnswer
-  asked-reached Stopped payload buf time s v q = absurd (Option·none-ne-some s q)
+  asked-reached Halt payload buf time s v q = absurd (Option·none-ne-some s q)
   asked-reached Control payload buf time s v q = absurd (Option·none-ne-some s q)
   asked-reached Back payload buf time s v q = absurd (Option·none-ne-some s q)
   asked-reached Visits payload buf time s v q = by-sent (sweptBy Visits (w .unit) .seen .sent) refl q v
     where
       by-sent : (sent : Sent) → sweptBy Visits (w .unit) .seen .sent ≡ sent → slotAsked (visitsTransmit sent (askedIn (sweptBy Visits (w .unit))) (w .unit .parameters)) ≡ some s
           → Valid (stateIs (afterTurn Visits sent time (w .unit .state)) (balancesAre (sweptBy Visits (w .unit) .balances) (w .unit))) → reached l (turnAnswer Visits (sweptBy Visits (w .unit)) (w .unit) payload buf) s ≡ true
-      by-sent Nothing e q v = absurd (Option·none-ne-some s q)
+      by-sent Nobody e q v = absurd (Option·none-ne-some s q)
       by-sent (To t k) e q v =
           let z : t ≡ s = cc in
           let o : occupied (w .unit) t = ⊎-elim (λ c. absurd (is-kind k (c .kind))) (λ o. o .there) (v .standing .request) in
@@ -339,8 +338,8 @@ module _ (w : World) (l : List Entry) (i : Inv w l) where
   wants-is (Sends ParameterRequest) = refl
   wants-is (Sends Configuration) = refl
   wants-is (Sends Data) = refl
-  wants-is Fell = refl
-  wants-is Skipped = refl
+  wants-is Drops = refl
+  wants-is Skips = refl
 
   not-fell : (b f r : Bool) → b ≡ true → r ≡ (b && f) → T (not r) → f ≡ false
   not-fell true true r eb e t = absurd (rw e at t)
@@ -354,7 +353,7 @@ module _ (w : World) (l : List Entry) (i : Inv w l) where
     where
       at : (st : Step) (o : occupied (w .unit) s) → swung st s o .visited ≡ true → let a = turnAnswer st (sweptBy st (w .unit)) (w .unit) payload buf in
           T (not (reportedOffline s a)) → asksData s (a .transmission) ≡ (not (dueOf (slotLog s l)) && ready (slotLog s l))
-      at Stopped o vis t = absurd (false≢true (sym (nobody Stopped s o (lt-leb slots s (marked-below (w .unit) (i .valid) s o))) ∙ vis))
+      at Halt o vis t = absurd (false≢true (sym (nobody Halt s o (lt-leb slots s (marked-below (w .unit) (i .valid) s o))) ∙ vis))
       at Control o vis t = absurd (false≢true (sym (nobody Control s o (lt-leb slots s (marked-below (w .unit) (i .valid) s o))) ∙ vis))
       at Back o vis t = absurd (false≢true (sym (nobody Back s o (lt-leb slots s (marked-below (w .unit) (i .valid) s o))) ∙ vis))
       at Visits o vis t =

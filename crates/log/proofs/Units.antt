@@ -1,7 +1,7 @@
 -- The unit, its pools and the log: what holds of them together is kept by each accepted call.
 -- The idea: one invariant a slot (its station and its notes, its image and its notes) and one a unit (frame, open request); a call writes one slot, or visits them all.
 use mathlib.Core.Path.{_≡_, refl, sym, ap, _∙_}
-use mathlib.Core.Bool.{Bool, true, false, false≢true}
+use mathlib.Core.Bool.{Bool, true, false, false≢true, cond}
 use mathlib.Core.List.{List, _∷_}
 use mathlib.Core.Option.{none, some}
 use Prim.Native.Nat.{ℕ, _<_}
@@ -10,7 +10,6 @@ use lib.ListN.{length, getD, set}
 use lib.Seq.{getD-set-same, getD-set-other}
 use lib.Dec.{eqb}
 use borrow.Author.Tests.{eqb-true, eqb-false}
-use Rattle.parts.specs.Parts.{pick}
 use Rattle.parts.proofs.Laws.{by-test}
 use Rattle.station.specs.Record.{dueIs}
 use Rattle.peripheral.specs.declared.record.Peripheral.{Peripheral}
@@ -119,7 +118,7 @@ module _ (w : World) (l : List Entry) (i : Inv w l) where
   -- b: the open request is that slot's, and is closed
   reset-at : (h : PeripheralHandle) (address : ℕ) (x : Answer) (b : Bool) → occupied (w .unit) (h .slot)
       → let s = w .unit .state in
-      let m : DpMaster = stateIs (pick b (placed (s .slot) (s .completed) 0 0 s) s) (balancesAre (set (w .unit .peripherals) (h .slot) (resetOf (getD (w .unit .peripherals) (h .slot) blank) address)) (w .unit)) in
+      let m : DpMaster = stateIs (cond b (placed (s .slot) (s .completed) 0 0 s) s) (balancesAre (set (w .unit .peripherals) (h .slot) (resetOf (getD (w .unit .peripherals) (h .slot) blank) address)) (w .unit)) in
       Valid m → InvAt (reset h address) x (unitIs m w) l
   reset-at h address x true o v =
       let ps = w .unit .peripherals in

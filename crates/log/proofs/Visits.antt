@@ -1,7 +1,7 @@
 -- The visits of one turn, seen from one slot.
 -- The idea: visits before and after slot s leave what is said of s; its own visit decides it; after one that sent nothing more comes.
 use mathlib.Core.Path.{_≡_, refl, sym, ap, _∙_, subst}
-use mathlib.Core.Bool.{Bool, true, false, _&&_, false≢true}
+use mathlib.Core.Bool.{Bool, true, false, _&&_, false≢true, cond}
 use mathlib.Core.Logic.{_⊎_, inl, inr, ⊎-elim}
 use mathlib.Core.List.{List}
 use mathlib.Core.Option.{Option, none, some}
@@ -14,11 +14,10 @@ use lib.Dec.{eqb, ltb, leb}
 use lib.Bits.{bitOr, or-lt}
 use lib.Pow.{pow-pos, pow-lt}
 use borrow.Author.Tests.{ltb-true, ltb-false, ne-eqb, eq-eqb, lt-ltb, le-leb, lt-leb, leb-true, leb-false}
-use Rattle.parts.specs.Parts.{pick}
 use Rattle.parts.proofs.Laws.{by-test, and-left, and-right}
-use Rattle.telegrams.specs.declared.request.Request.{Request}
+use Rattle.payloads.specs.declared.request.Request.{Request}
 use Rattle.station.specs.declared.visit.Visited.{Visited}
-use Rattle.station.specs.declared.visit.Visited.the-variants.{Sent as Sends, Fell, Skipped}
+use Rattle.station.specs.declared.visit.Visited.the-variants.{Sends, Drops, Skips}
 use Rattle.station.proofs.Visits.{falls}
 use Rattle.peripheral.specs.declared.record.Peripheral.{Peripheral}
 use Rattle.peripheral.specs.Record.{blank}
@@ -26,7 +25,7 @@ use Rattle.peripheral.specs.Visit.{wishesOf, visitedBy}
 use Rattle.peripheral_set.specs.Marks.{slots}
 use Rattle.cycle.specs.declared.seen.Seen.{Seen}
 use Rattle.cycle.specs.declared.seen.Sent.{Sent}
-use Rattle.cycle.specs.declared.seen.Sent.the-variants.{Nothing, To}
+use Rattle.cycle.specs.declared.seen.Sent.the-variants.{Nobody, To}
 use Rattle.cycle.specs.Seen.{bitAt, nothingSeen, seenBy, idle}
 use Rattle.master.specs.Turn.{Swept, sweepFrom}
 use Rattle.master.proofs.Bits.{bit, or-bit, pow-bit-same, pow-bit-below, pow-bit-above, zero-bit}
@@ -34,21 +33,21 @@ use Rattle.master.proofs.Sweep.{sweep-skip, sweep-visit, sweep-stopped}
 
 -- the request that went to slot s
 abbrev pub kindSent : ℕ → Sent → Option Request
-kindSent s Nothing = none
-kindSent s (To t k) = pick (eqb s t) (some k) none
+kindSent s Nobody = none
+kindSent s (To t k) = cond (eqb s t) (some k) none
 
 -- the visits went at least up to slot s
 abbrev pub wentTo : ℕ → Sent → Bool
-wentTo s Nothing = true
+wentTo s Nobody = true
 wentTo s (To t k) = leb s t
 
 abbrev pub kindOf : Visited → Option Request
 kindOf (Sends k) = some k
-kindOf Fell = none
-kindOf Skipped = none
+kindOf Drops = none
+kindOf Skips = none
 
-idle-is : (x : Sent) → idle x ≡ true → x ≡ Nothing
-idle-is Nothing e = refl
+idle-is : (x : Sent) → idle x ≡ true → x ≡ Nobody
+idle-is Nobody e = refl
 idle-is (To t k) e = absurd (false≢true e)
 
 -- ---- one visit
@@ -58,34 +57,34 @@ at-other i s d = by-test (ltb i slots) (λ e. rw e (⊎-elim (pow-bit-below i s)
 
 see-other : (v : Visited) (i s : ℕ) (seen : Seen) → (i < s) ⊎ (s < i) → bit s (seenBy i v seen .mask) ≡ bit s (seen .mask)
 see-other (Sends k) i s seen d = refl
-see-other Fell i s seen d = or-bit (seen .mask) (bitAt i) s ∙ rw (at-other i s d) (omega arith)
-see-other Skipped i s seen d = refl
+see-other Drops i s seen d = or-bit (seen .mask) (bitAt i) s ∙ rw (at-other i s d) (omega arith)
+see-other Skips i s seen d = refl
 
-see-here : (v : Visited) (s : ℕ) (seen : Seen) → s < slots → bit s (seenBy s v seen .mask) ≡ pick (falls v) 1 (bit s (seen .mask))
+see-here : (v : Visited) (s : ℕ) (seen : Seen) → s < slots → bit s (seenBy s v seen .mask) ≡ cond (falls v) 1 (bit s (seen .mask))
 see-here (Sends k) s seen h = refl
-see-here Fell s seen h = or-bit (seen .mask) (bitAt s) s ∙ rw (lt-ltb s slots h, pow-bit-same s) (omega arith)
-see-here Skipped s seen h = refl
+see-here Drops s seen h = or-bit (seen .mask) (bitAt s) s ∙ rw (lt-ltb s slots h, pow-bit-same s) (omega arith)
+see-here Skips s seen h = refl
 
 kind-here : (v : Visited) (s : ℕ) (seen : Seen) → idle (seen .sent) ≡ true → kindSent s (seenBy s v seen .sent) ≡ kindOf v
 kind-here (Sends k) s seen e = rw (eq-eqb s s refl) refl
-kind-here Fell s seen e = ap (kindSent s) (idle-is (seen .sent) e)
-kind-here Skipped s seen e = ap (kindSent s) (idle-is (seen .sent) e)
+kind-here Drops s seen e = ap (kindSent s) (idle-is (seen .sent) e)
+kind-here Skips s seen e = ap (kindSent s) (idle-is (seen .sent) e)
 
 went-here : (v : Visited) (s : ℕ) (seen : Seen) → idle (seen .sent) ≡ true → wentTo s (seenBy s v seen .sent) ≡ true
 went-here (Sends k) s seen e = le-leb s s (omega arith)
-went-here Fell s seen e = ap (wentTo s) (idle-is (seen .sent) e)
-went-here Skipped s seen e = ap (wentTo s) (idle-is (seen .sent) e)
+went-here Drops s seen e = ap (wentTo s) (idle-is (seen .sent) e)
+went-here Skips s seen e = ap (wentTo s) (idle-is (seen .sent) e)
 
 -- a visit to a later slot
 kind-later : (v : Visited) (i s : ℕ) (seen : Seen) → s < i → idle (seen .sent) ≡ true → kindSent s (seenBy i v seen .sent) ≡ kindSent s (seen .sent)
 kind-later (Sends k) i s seen h e = rw (ne-eqb s i (λ q. omega arith)) (sym (ap (kindSent s) (idle-is (seen .sent) e)))
-kind-later Fell i s seen h e = refl
-kind-later Skipped i s seen h e = refl
+kind-later Drops i s seen h e = refl
+kind-later Skips i s seen h e = refl
 
 went-later : (v : Visited) (i s : ℕ) (seen : Seen) → s < i → idle (seen .sent) ≡ true → wentTo s (seenBy i v seen .sent) ≡ wentTo s (seen .sent)
 went-later (Sends k) i s seen h e = le-leb s i (omega arith) ∙ sym (ap (wentTo s) (idle-is (seen .sent) e))
-went-later Fell i s seen h e = refl
-went-later Skipped i s seen h e = refl
+went-later Drops i s seen h e = refl
+went-later Skips i s seen h e = refl
 
 -- ---- the visits after slot s
 
@@ -97,7 +96,7 @@ record Beside (s : ℕ) (seen : Seen) (ps : List Peripheral) (w : Swept) : Type 
 
 module _ (limit : ℕ) (marks : List Bool) (s : ℕ) where
   one-later : (g : Bool) (i : ℕ) (seen : Seen) (ps : List Peripheral) → s < i → (g ≡ true → idle (seen .sent) ≡ true)
-      → Beside s seen ps (record { seen = pick g (seenBy i (wishesOf limit (getD ps i blank)) seen) seen; balances = pick g (set ps i (visitedBy limit (getD ps i blank))) ps })
+      → Beside s seen ps (record { seen = cond g (seenBy i (wishesOf limit (getD ps i blank)) seen) seen; balances = cond g (set ps i (visitedBy limit (getD ps i blank))) ps })
   one-later true i seen ps h f =
       record {
         balance = getD-set-other ps i s (visitedBy limit (getD ps i blank)) blank (λ q. omega arith);
@@ -113,16 +112,16 @@ module _ (limit : ℕ) (marks : List Bool) (s : ℕ) where
   after-slot (suc k) i seen ps h =
       let g = getD marks i false && idle (seen .sent) in
       let a = one-later g i seen ps h (λ e. and-right (getD marks i false) (idle (seen .sent)) e) in
-      let b = after-slot k (i + 1) (pick g (seenBy i (wishesOf limit (getD ps i blank)) seen) seen) (pick g (set ps i (visitedBy limit (getD ps i blank))) ps) (omega arith) in
+      let b = after-slot k (i + 1) (cond g (seenBy i (wishesOf limit (getD ps i blank)) seen) seen) (cond g (set ps i (visitedBy limit (getD ps i blank))) ps) (omega arith) in
       record { balance = b .balance ∙ a .balance; mask = b .mask ∙ a .mask; kind = b .kind ∙ a .kind; went = b .went ∙ a .went }
 
 -- ---- what the visits of a turn leave of slot s: visited or not, and if so what its own visit did
 
 pub record Sees (limit s : ℕ) (p : Peripheral) (old : ℕ) (w : Swept) : Type 0 where
   pub visited : Bool
-  pub balance : getD (w .balances) s blank ≡ pick visited (visitedBy limit p) p
-  pub mask : bit s (w .seen .mask) ≡ pick (visited && falls (wishesOf limit p)) 1 old
-  pub kind : kindSent s (w .seen .sent) ≡ pick visited (kindOf (wishesOf limit p)) none
+  pub balance : getD (w .balances) s blank ≡ cond visited (visitedBy limit p) p
+  pub mask : bit s (w .seen .mask) ≡ cond (visited && falls (wishesOf limit p)) 1 old
+  pub kind : kindSent s (w .seen .sent) ≡ cond visited (kindOf (wishesOf limit p)) none
   pub went : wentTo s (w .seen .sent) ≡ visited
 
 module _ (limit : ℕ) (marks : List Bool) (s : ℕ) (here : s < slots) (marked : getD marks s false ≡ true) where
@@ -169,8 +168,8 @@ module _ (limit : ℕ) (marks : List Bool) (s : ℕ) (here : s < slots) (marked 
 
     one : (v : Visited) (r : Peripheral) → Sees limit s (getD ps s blank) (bit s (seen .mask)) (sweepFrom k limit marks (i + 1) (seenBy i v seen) (set ps i r))
     one (Sends t) r = stopped k i seen ps t r lt
-    one Fell r = go-on (seenBy i Fell seen) r (see-other Fell i s seen (inl lt)) e
-    one Skipped r = go-on seen r refl e
+    one Drops r = go-on (seenBy i Drops seen) r (see-other Drops i s seen (inl lt)) e
+    one Skips r = go-on seen r refl e
 
     one-before : Sees limit s (getD ps s blank) (bit s (seen .mask)) (sweepFrom (suc k) limit marks i seen ps)
     unfolding Rest
@@ -202,9 +201,9 @@ module _ (limit : ℕ) (marks : List Bool) (s : ℕ) (here : s < slots) (marked 
 -- from: where they start; went is of a slot that is not before it
 pub record Swung (limit from s : ℕ) (p : Peripheral) (w : Swept) : Type 0 where
   pub visited : Bool
-  pub balance : getD (w .balances) s blank ≡ pick visited (visitedBy limit p) p
-  pub mask : bit s (w .seen .mask) ≡ pick (visited && falls (wishesOf limit p)) 1 0
-  pub kind : kindSent s (w .seen .sent) ≡ pick visited (kindOf (wishesOf limit p)) none
+  pub balance : getD (w .balances) s blank ≡ cond visited (visitedBy limit p) p
+  pub mask : bit s (w .seen .mask) ≡ cond (visited && falls (wishesOf limit p)) 1 0
+  pub kind : kindSent s (w .seen .sent) ≡ cond visited (kindOf (wishesOf limit p)) none
   pub went : (leb from s && wentTo s (w .seen .sent)) ≡ visited
 
 pub all-visits : (limit : ℕ) (marks : List Bool) (from s : ℕ) (ps : List Peripheral) → s < slots → s < length ps → getD marks s false ≡ true
@@ -237,17 +236,17 @@ pub record Firsts (i : ℕ) (seen : Seen) : Type 0 where
 or-kept : (a b k : ℕ) → bit k a ≡ 1 → bit k (bitOr a b) ≡ 1
 or-kept a b k e = or-bit a b k ∙ rw e (omega arith)
 
-fell-first : (i : ℕ) (seen : Seen) → i < slots → ((seen .first ≡ 255) × (seen .mask ≡ 0)) ⊎ Lowest i seen → Lowest (i + 1) (seenBy i Fell seen)
+fell-first : (i : ℕ) (seen : Seen) → i < slots → ((seen .first ≡ 255) × (seen .mask ≡ 0)) ⊎ Lowest i seen → Lowest (i + 1) (seenBy i Drops seen)
 fell-first i seen h (inl e) =
     rw (e .0)
-    (record { below = omega arith; own = see-here Fell i seen h; lower = λ s t. see-other Fell i s seen (inr t) ∙ rw (e .1) (zero-bit s) })
+    (record { below = omega arith; own = see-here Drops i seen h; lower = λ s t. see-other Drops i s seen (inr t) ∙ rw (e .1) (zero-bit s) })
 fell-first i seen h (inr f) =
     let n : eqb (seen .first) 255 ≡ false = ne-eqb (seen .first) 255 (λ e. omega (arith, f .below)) in
     rw n
     (record {
       below = omega (arith, f .below);
       own = or-kept (seen .mask) (bitAt i) (seen .first) (f .own);
-      lower = λ s t. see-other Fell i s seen (inr (omega (arith, f .below))) ∙ f .lower s t;
+      lower = λ s t. see-other Drops i s seen (inr (omega (arith, f .below))) ∙ f .lower s t;
     })
 
 later : (i : ℕ) (seen : Seen) → Firsts i seen → Firsts (i + 1) seen
@@ -259,8 +258,8 @@ later i seen f =
 
 see-first : (v : Visited) (i : ℕ) (seen : Seen) → i < slots → Firsts i seen → Firsts (i + 1) (seenBy i v seen)
 see-first (Sends k) i seen h f = let g = later i seen f in record { within = g .within; either = ⊎-elim (λ e. inl e) (λ e. inr (record { below = e .below; own = e .own; lower = e .lower })) (g .either) }
-see-first Fell i seen h f = record { within = or-lt slots (seen .mask) (bitAt i) (f .within) (rw (lt-ltb i slots h) (pow-lt h)); either = inr (fell-first i seen h (f .either)) }
-see-first Skipped i seen h f = later i seen f
+see-first Drops i seen h f = record { within = or-lt slots (seen .mask) (bitAt i) (f .within) (rw (lt-ltb i slots h) (pow-lt h)); either = inr (fell-first i seen h (f .either)) }
+see-first Skips i seen h f = later i seen f
 
 sweep-first : (limit : ℕ) (marks : List Bool) (k i : ℕ) (seen : Seen) (ps : List Peripheral) → i + k ≤ slots → Firsts i seen → Firsts (i + k) (sweepFrom k limit marks i seen ps .seen)
 unfolding sweepFrom
@@ -269,7 +268,7 @@ sweep-first limit marks (suc k) i seen ps h f =
     let z : i + suc k ≡ (i + 1) + k = omega arith in
     rw z (sweep-first limit marks k (i + 1) _ _ (omega arith) (step (getD marks i false && idle (seen .sent))))
   where
-    step : (g : Bool) → Firsts (i + 1) (pick g (seenBy i (wishesOf limit (getD ps i blank)) seen) seen)
+    step : (g : Bool) → Firsts (i + 1) (cond g (seenBy i (wishesOf limit (getD ps i blank)) seen) seen)
     step true = see-first (wishesOf limit (getD ps i blank)) i seen (omega arith) f
     step false = later i seen f
 
@@ -289,7 +288,7 @@ unfolding sweepFrom
 empty-bit limit marks s zero i seen ps e = refl
 empty-bit limit marks s (suc k) i seen ps e = empty-bit limit marks s k (i + 1) _ _ e ∙ step (getD marks i false && idle (seen .sent)) refl
   where
-    step : (g : Bool) → (getD marks i false && idle (seen .sent)) ≡ g → bit s (pick g (seenBy i (wishesOf limit (getD ps i blank)) seen) seen .mask) ≡ bit s (seen .mask)
+    step : (g : Bool) → (getD marks i false && idle (seen .sent)) ≡ g → bit s (cond g (seenBy i (wishesOf limit (getD ps i blank)) seen) seen .mask) ≡ bit s (seen .mask)
     step true q =
         see-other (wishesOf limit (getD ps i blank)) i s seen
         (not-same i s (λ z. false≢true (sym e ∙ subst (λ (n : ℕ). getD marks n false ≡ true) z (and-left (getD marks i false) (idle (seen .sent)) q))))

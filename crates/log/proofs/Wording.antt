@@ -9,8 +9,8 @@ use mathlib.Core.List.{List, [], _∷_}
 use lib.Dec.{T}
 use lib.ListN.{drop}
 use mathlib.Core.Option.{Option, none, some}
-use Rattle.telegrams.specs.declared.request.Request.{Request}
-use Rattle.telegrams.specs.declared.request.Request.the-variants.{Diagnosis, Parameters, Configuration, Data}
+use Rattle.payloads.specs.declared.request.Request.{Request}
+use Rattle.payloads.specs.declared.request.Request.the-variants.{Diagnosis, Parameters, Configuration, Data}
 use Rattle.fdl.specs.declared.telegram.Telegram.{Telegram}
 use Rattle.log.specs.Words.{Note, wasAdded, readdressed, wished, wentOffline, asked, got, lastAsked, denies, cleans, makesDue, endsDue, dueOf, fall, acknowledged, clean, notEnabled, dueMade, dueEnded, Due, Ready}
 

@@ -1,11 +1,11 @@
 -- The calls that can change a unit or its pools, what each answers, and `step`: what a call does, by the right-hand sides of the contracts and nothing else.
 -- From 01, "The unit and its sizes", "Refusal numbers", "One turn", "One visit and one reply".
 use Prim.Native.Nat.{ℕ}
-use mathlib.Core.Bool.{Bool}
+use mathlib.Core.Bool.{Bool, cond}
 use mathlib.Core.List.{List, _++_}
 use lib.ListN.{length, take, drop}
 use lib.Dec.{eqb}
-use Rattle.parts.specs.Parts.{pick, putIn}
+use Rattle.parts.specs.Parts.{putIn}
 use Rattle.fdl.specs.Reply.{carried}
 use Rattle.fdl.specs.declared.telegram.Telegram.{Telegram}
 use Rattle.peripheral.specs.declared.record.Peripheral.{Peripheral}
@@ -101,16 +101,16 @@ addStep ok n l a user config lent w =
     record {
       world =
           record {
-            unit = pick ok (unitAdded (w .unit) a l) (w .unit);
+            unit = cond ok (unitAdded (w .unit) a l) (w .unit);
             pools =
                 record {
-                  setup = back (lent .setup) (pick ok (setupAfter (w .unit .used .setup) user config (lend (lent .setup) (w .pools .setup))) (lend (lent .setup) (w .pools .setup))) (w .pools .setup);
-                  inputs = back (lent .inputs) (pick ok (cleared (w .unit .used .inputs) (l .inputs) (lend (lent .inputs) (w .pools .inputs))) (lend (lent .inputs) (w .pools .inputs))) (w .pools .inputs);
-                  outputs = back (lent .outputs) (pick ok (cleared (w .unit .used .outputs) (l .outputs) (lend (lent .outputs) (w .pools .outputs))) (lend (lent .outputs) (w .pools .outputs))) (w .pools .outputs);
-                  diags = back (lent .diags) (pick ok (cleared (w .unit .used .diags) (l .room) (lend (lent .diags) (w .pools .diags))) (lend (lent .diags) (w .pools .diags))) (w .pools .diags);
+                  setup = back (lent .setup) (cond ok (setupAfter (w .unit .used .setup) user config (lend (lent .setup) (w .pools .setup))) (lend (lent .setup) (w .pools .setup))) (w .pools .setup);
+                  inputs = back (lent .inputs) (cond ok (cleared (w .unit .used .inputs) (l .inputs) (lend (lent .inputs) (w .pools .inputs))) (lend (lent .inputs) (w .pools .inputs))) (w .pools .inputs);
+                  outputs = back (lent .outputs) (cond ok (cleared (w .unit .used .outputs) (l .outputs) (lend (lent .outputs) (w .pools .outputs))) (lend (lent .outputs) (w .pools .outputs))) (w .pools .outputs);
+                  diags = back (lent .diags) (cond ok (cleared (w .unit .used .diags) (l .room) (lend (lent .diags) (w .pools .diags))) (lend (lent .diags) (w .pools .diags))) (w .pools .diags);
                 };
           };
-      answer = added n (pick ok (record { slot = firstEmpty (w .unit .occupied); address = a .address }) (record { slot = 255; address = 255 }));
+      answer = added n (cond ok (record { slot = firstEmpty (w .unit .occupied); address = a .address }) (record { slot = 255; address = 255 }));
     }
 
 abbrev pub unitIs : DpMaster → World → World
@@ -119,8 +119,8 @@ unitIs m w = record { unit = m; pools = w .pools }
 abbrev pub turnStep : Bool → ℕ → Step → Swept → List ℕ → ℕ → List ℕ → World → Outcome
 turnStep ok n step s payload time buf w =
     record {
-      world = unitIs (pick ok (unitTurned step s time (w .unit)) (w .unit)) w;
-      answer = turned (pick ok (turnAnswer step s (w .unit) payload buf) (refusedTurn n)) (pick ok (putIn 0 (length payload) payload buf) buf);
+      world = unitIs (cond ok (unitTurned step s time (w .unit)) (w .unit)) w;
+      answer = turned (cond ok (turnAnswer step s (w .unit) payload buf) (refusedTurn n)) (cond ok (putIn 0 (length payload) payload buf) buf);
     }
 
 abbrev pub replyStep : Bool → ℕ → Reply → Telegram → List ℕ → ℕ → ℕ → World → Outcome
@@ -128,16 +128,16 @@ replyStep ok n is t payload ni nd w =
     record {
       world =
           record {
-            unit = pick ok (unitReplied (w .unit) is) (w .unit);
+            unit = cond ok (unitReplied (w .unit) is) (w .unit);
             pools =
                 record {
                   setup = w .pools .setup;
-                  inputs = back ni (pick ok (inputsOf (is .event) (carried t payload) (openBalance (w .unit)) (lend ni (w .pools .inputs))) (lend ni (w .pools .inputs))) (w .pools .inputs);
+                  inputs = back ni (cond ok (inputsOf (is .event) (carried t payload) (openBalance (w .unit)) (lend ni (w .pools .inputs))) (lend ni (w .pools .inputs))) (w .pools .inputs);
                   outputs = w .pools .outputs;
-                  diags = back nd (pick ok (diagsOf (takes t (openBalance (w .unit)) (length payload)) (openBalance (w .unit)) payload (lend nd (w .pools .diags))) (lend nd (w .pools .diags))) (w .pools .diags);
+                  diags = back nd (cond ok (diagsOf (takes t (openBalance (w .unit)) (length payload)) (openBalance (w .unit)) payload (lend nd (w .pools .diags))) (lend nd (w .pools .diags))) (w .pools .diags);
                 };
           };
-      answer = replied (pick ok (replyAnswer (w .unit) is) (refusedReply n));
+      answer = replied (cond ok (replyAnswer (w .unit) is) (refusedReply n));
     }
 
 -- a call that answers a number and leaves the pools
@@ -152,7 +152,7 @@ abbrev pub writeStep : Bool → ℕ → Peripheral → List ℕ → ℕ → Worl
 writeStep ok n p bytes nq w =
     record {
       world =
-          outputsAre (back nq (pick ok (putIn (p .ranges .outputs) (p .ranges .«output_len») bytes (lend nq (w .pools .outputs))) (lend nq (w .pools .outputs))) (w .pools .outputs))
+          outputsAre (back nq (cond ok (putIn (p .ranges .outputs) (p .ranges .«output_len») bytes (lend nq (w .pools .outputs))) (lend nq (w .pools .outputs))) (w .pools .outputs))
           w;
       answer = number n;
     }

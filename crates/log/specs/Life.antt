@@ -1,10 +1,10 @@
 -- The life of one balance: a bench, its calls, and the numbers that its answers have. It shows that what is promised happens, and each line of the table is held to the definitions.
 -- From 01, "One turn", "One visit and one reply" and "Refusal numbers".
 use Prim.Native.Nat.{ℕ}
-use mathlib.Core.Bool.{Bool, true, false}
+use mathlib.Core.Bool.{Bool, true, false, cond}
 use mathlib.Core.List.{List, [], _∷_, _++_}
 use lib.ListN.{take}
-use Rattle.parts.specs.Parts.{pick, zeros}
+use Rattle.parts.specs.Parts.{zeros}
 use Rattle.fdl.specs.Bits.{bitNumber, requestNumber}
 use Rattle.fdl.specs.Sap.{sapNumber}
 use Rattle.fdl.specs.declared.consts.Sap.the-variants.{Absent, At}
@@ -12,7 +12,7 @@ use Rattle.fdl.specs.declared.parameters.Parameters.{Parameters}
 use Rattle.fdl.specs.declared.telegram.DataTelegramHeader.{DataTelegramHeader}
 use Rattle.fdl.specs.declared.telegram.Telegram.{Telegram}
 use Rattle.fdl.specs.declared.telegram.Telegram.the-variants.{ShortConfirmation, Data}
-use Rattle.telegrams.specs.Request.{kindNumber}
+use Rattle.payloads.specs.Request.{kindNumber}
 use Rattle.station.specs.State.{eventNumber}
 use Rattle.peripheral_set.specs.declared.PeripheralHandle.{PeripheralHandle}
 use Rattle.cycle.specs.declared.state.OperatingState.the-variants.{Stop, Clear, Operate}
@@ -110,7 +110,7 @@ askedBench = run bench benchPools diagnosisAsked .world
 -- ---- the numbers of an answer
 
 abbrev pub asNumber : Bool → ℕ
-asNumber b = pick b 1 0
+asNumber b = cond b 1 0
 
 abbrev pub headerNumbers : DataTelegramHeader → List ℕ
 headerNumbers h = h .da ∷ h .sa ∷ sapNumber (h .dsap) ∷ sapNumber (h .ssap) ∷ bitNumber (h .fcb) ∷ requestNumber (h .req) ∷ []

@@ -4,15 +4,14 @@
 use mathlib.Core.Path.{_≡_}
 use mathlib.Core.Logic.{_↔_}
 use Prim.Native.Nat.{ℕ, _<_, _^_}
-use mathlib.Core.Bool.{Bool, true, false, not, _&&_}
+use mathlib.Core.Bool.{Bool, true, false, not, _&&_, cond}
 use mathlib.Core.List.{List, []}
 use mathlib.Core.Option.{some}
 use lib.ListN.{length}
 use lib.Dec.{T, eqb, ltb}
-use Rattle.parts.specs.Parts.{pick}
 use Rattle.fdl.specs.declared.parameters.Parameters.{Parameters}
 use Rattle.fdl.specs.declared.telegram.Telegram.{Telegram}
-use Rattle.station.specs.declared.state.PeripheralEvent.the-variants.{Nothing as NoEvent, Offline}
+use Rattle.station.specs.declared.state.PeripheralEvent.the-variants.{NoEvent, Offline}
 use Rattle.peripheral.specs.Record.{inputImage}
 use Rattle.peripheral_set.specs.declared.PeripheralHandle.{PeripheralHandle}
 use Rattle.peripheral_set.specs.Marks.{slots}
@@ -90,7 +89,7 @@ pub record MaskEvent (m : DpMaster) (a : TurnAnswer) : Type 0 where
   -- no bit above the slots
   pub above : a .offline < 2 ^ slots
   -- Offline exactly when a bit is set
-  pub event : a .event ≡ pick (eqb (a .offline) 0) NoEvent Offline
+  pub event : a .event ≡ cond (eqb (a .offline) 0) NoEvent Offline
   -- its slot has its bit, and none before it has
   pub own : T (isOffline (a .event)) → T (bitSet (a .handle .slot) (a .offline))
   pub lowest : T (isOffline (a .event)) → (s : ℕ) → s < a .handle .slot → T (not (bitSet s (a .offline)))

@@ -1,7 +1,7 @@
 -- Runs: any calls on a unit just created, and the log that they leave. The calls are listed newest first, as the log is.
 -- From 01, "Words of the log": the log holds accepted calls with their answers.
+use mathlib.Core.Bool.{cond}
 use mathlib.Core.List.{List, [], _∷_}
-use Rattle.parts.specs.Parts.{pick}
 use Rattle.fdl.specs.declared.parameters.Parameters.{Parameters}
 use Rattle.master.specs.Unit.{createdOf}
 use Rattle.log.specs.Calls.{Call, Pools, World, Outcome, accepted, step}
@@ -13,7 +13,7 @@ pub record Run : Type 0 where
 
 -- only accepted calls are entered
 abbrev pub after : Call → Outcome → List Entry → Run
-after c o l = record { world = o .world; log = pick (accepted (o .answer)) (record { call = c; answer = o .answer } ∷ l) l }
+after c o l = record { world = o .world; log = cond (accepted (o .answer)) (record { call = c; answer = o .answer } ∷ l) l }
 
 -- from creation with these parameters, refused or not, and these pools; f is what a call does
 abbrev pub runBy : (World → Call → Outcome) → Parameters → Pools → List Call → Run
@@ -27,4 +27,4 @@ run u pools cs = runBy step u pools cs
 -- the calls without those that were refused
 abbrev pub acceptedOf : Parameters → Pools → List Call → List Call
 acceptedOf u pools [] = []
-acceptedOf u pools (c ∷ cs) = pick (accepted (step (run u pools cs .world) c .answer)) (c ∷ acceptedOf u pools cs) (acceptedOf u pools cs)
+acceptedOf u pools (c ∷ cs) = cond (accepted (step (run u pools cs .world) c .answer)) (c ∷ acceptedOf u pools cs) (acceptedOf u pools cs)

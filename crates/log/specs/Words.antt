@@ -2,21 +2,21 @@
 -- From 01, "Words of the log". A log is newest first, and so are the notes that it holds of one slot.
 use mathlib.Core.Path.{_≡_}
 use Prim.Native.Nat.{ℕ, _<_, _≤_, _/_, _%_, _^_}
-use mathlib.Core.Bool.{Bool, true, false, not, _&&_, _||_}
+use mathlib.Core.Bool.{Bool, true, false, not, _&&_, _||_, cond}
 use mathlib.Core.List.{List, [], _∷_}
 use mathlib.Core.Option.{Option, none, some}
 use lib.Dec.{T, eqb, ltb, leb}
 use lib.ListN.{length, getD, set, replicate, drop}
-use Rattle.parts.specs.Parts.{pick, zeros}
+use Rattle.parts.specs.Parts.{zeros}
 use Rattle.fdl.specs.Reply.{carried}
 use Rattle.fdl.specs.declared.telegram.Telegram.{Telegram}
 use Rattle.fdl.specs.declared.telegram.Telegram.the-variants.{ShortConfirmation, Data as DataReply, Token, Request as RequestTelegram}
-use Rattle.telegrams.specs.declared.request.Request.{Request}
-use Rattle.telegrams.specs.declared.request.Request.the-variants.{Diagnosis, Parameters, Configuration, Data}
-use Rattle.telegrams.specs.Request.{kindNumber}
-use Rattle.telegrams.specs.Diagnosis.{taken, flag, diagnosisOf}
+use Rattle.payloads.specs.declared.request.Request.{Request}
+use Rattle.payloads.specs.declared.request.Request.the-variants.{Diagnosis, Parameters, Configuration, Data}
+use Rattle.payloads.specs.Request.{kindNumber}
+use Rattle.payloads.specs.Diagnosis.{taken, flag, diagnosisOf}
 use Rattle.station.specs.declared.state.PeripheralEvent.{PeripheralEvent}
-use Rattle.station.specs.declared.state.PeripheralEvent.the-variants.{Nothing as NoEvent, Online, Configured, ConfigError, ParameterError, DataExchanged, Diagnostics, Offline}
+use Rattle.station.specs.declared.state.PeripheralEvent.the-variants.{NoEvent, Online, Configured, ConfigError, ParameterError, DataExchanged, Diagnostics, Offline}
 use Rattle.station.specs.Reply.{isExchanged, isShort}
 use Rattle.peripheral_set.specs.Marks.{slots, nextAfter}
 use Rattle.cycle.specs.declared.state.OperatingState.{OperatingState}
@@ -113,7 +113,7 @@ target (e ∷ l) = targetAfter (e .call) (e .answer) (target l)
 
 -- the note is slot s's
 abbrev pub noteIf : Bool → Note → List Note → List Note
-noteIf b x l = pick b (x ∷ l) l
+noteIf b x l = cond b (x ∷ l) l
 
 abbrev pub noteAt : ℕ → Option ℕ → Note → List Note → List Note
 noteAt s none x l = l
@@ -127,7 +127,7 @@ noteAsked s (Asks t k header) l = noteIf (eqb s t) (asked k) l
 abbrev pub noted : ℕ → Call → Answer → Option ℕ → List Note → List Note
 noted s (add a user config lent) x t l = noteIf (eqb s (slotGiven x)) (wasAdded (a .«input_len»)) l
 noted s (enter m) x t l = l
-noted s (turn time high ns nq buf) x t l = pick (reportedOffline s (turnOf x)) (wentOffline ∷ l) (noteAsked s (turnOf x .transmission) l)
+noted s (turn time high ns nq buf) x t l = cond (reportedOffline s (turnOf x)) (wentOffline ∷ l) (noteAsked s (turnOf x .transmission) l)
 noted s (reply address r payload ni nd) x t l = noteAt s t (got r payload (eventOf x)) l
 noted s (reset h address) x t l = noteIf (eqb s (h .slot)) readdressed l
 noted s (wish h) x t l = noteIf (eqb s (h .slot)) wished l
@@ -156,13 +156,13 @@ quietPlace Operate p = firstPlace
 
 -- the turn rules: at the slot that was asked; kept at a global control; the first slot past the last
 abbrev pub placeTurned : OperatingState → Bool → Transmission → Place → Place
-placeTurned m completed Nothing p = pick completed firstPlace (quietPlace m p)
+placeTurned m completed Nothing p = cond completed firstPlace (quietPlace m p)
 placeTurned m completed (Control header) p = p
 placeTurned m completed (Asks t k header) p = record { slot = t; past = false }
 
 -- the reply rule: the next occupied slot; with none the cycle is completed
 abbrev pub placeNext : ℕ → Place
-placeNext next = pick (ltb next slots) (record { slot = next; past = false }) (record { slot = 0; past = true })
+placeNext next = cond (ltb next slots) (record { slot = next; past = false }) (record { slot = 0; past = true })
 
 abbrev pub placeReplied : List Bool → Option ℕ → Place → Place
 placeReplied marks none p = p
@@ -203,7 +203,7 @@ pub record Moved (l : List Entry) (p : Place) : Type 0 where
   pub slot : ℕ
   pub newest : target l ≡ some slot
   pub next : p .past ≡ false → (slot < p .slot) × T (occupiedIn l (p .slot))
-  pub between : (s : ℕ) → slot < s → s < pick (p .past) slots (p .slot) → T (not (occupiedIn l s))
+  pub between : (s : ℕ) → slot < s → s < cond (p .past) slots (p .slot) → T (not (occupiedIn l s))
 
 -- how far the visits went: up to the slot that was asked, or to the last when none was; in steps 1 to 3 nowhere
 abbrev pub upTo : ℕ → Bool → Transmission → Bool
@@ -321,7 +321,7 @@ imageOf (readdressed ∷ l) = imageOf l
 imageOf (wished ∷ l) = imageOf l
 imageOf (wentOffline ∷ l) = imageOf l
 imageOf (asked k ∷ l) = imageOf l
-imageOf (got t payload e ∷ l) = pick (isExchanged e) (carried t payload) (imageOf l)
+imageOf (got t payload e ∷ l) = cond (isExchanged e) (carried t payload) (imageOf l)
 
 -- ---- of the newest note
 

@@ -1,12 +1,11 @@
--- Five units that could pass for one, each wrong at every call it is about. The inputs at which each is told from the promised one stand in Life.antt.
+-- Five units that could pass for one, each wrong inState every call it is about. The inputs inState which each is told from the promised one stand in Life.antt.
 -- From 01, "What the contracts have to say".
 use Prim.Native.Nat.{ℕ}
-use mathlib.Core.Bool.{Bool, false}
+use mathlib.Core.Bool.{Bool, false, cond}
 use lib.ListN.{set}
 use lib.Dec.{eqb}
-use Rattle.parts.specs.Parts.{pick}
 use Rattle.station.specs.declared.state.PeripheralState.the-variants.{DataExchange}
-use Rattle.station.specs.Record.{at}
+use Rattle.station.specs.Record.{inState}
 use Rattle.peripheral.specs.declared.record.Peripheral.{Peripheral}
 use Rattle.peripheral.specs.Record.{stationIs}
 use Rattle.cycle.specs.Seen.{indexOf}
@@ -39,9 +38,9 @@ sameAnswer w c = record { world = step w c .world; answer = plain 0 0 c }
 abbrev pub doesNothing : World → Call → Outcome
 doesNothing w c = record { world = w; answer = step w c .answer }
 
--- running all states at the first reply, and then pretending: after an accepted reply the balance that answered is in DataExchange, and the answer is the promised one
+-- running all states inState the first reply, and then pretending: after an accepted reply the balance that answered is in DataExchange, and the answer is the promised one
 abbrev pub inExchange : Peripheral → Peripheral
-inExchange p = stationIs (at DataExchange (p .station)) p
+inExchange p = stationIs (inState DataExchange (p .station)) p
 
 abbrev pub pretending : ℕ → World → World
 pretending slot w = unitIs (balancesAre (set (w .unit .peripherals) (indexOf slot) (inExchange (balanceAt (w .unit .peripherals) slot))) (w .unit)) w
@@ -53,9 +52,9 @@ replyTaken (turned a buf) = false
 replyTaken (replied a) = eqb (a .refusal) 0
 
 abbrev pub runsAll : World → Call → Outcome
-runsAll w c = let o : Outcome = step w c in record { world = pick (replyTaken (o .answer)) (pretending (w .unit .state .«open_slot») (o .world)) (o .world); answer = o .answer }
+runsAll w c = let o : Outcome = step w c in record { world = cond (replyTaken (o .answer)) (pretending (w .unit .state .«open_slot») (o .world)) (o .world); answer = o .answer }
 
--- an invented Offline mask, at every turn
+-- an invented Offline mask, inState every turn
 abbrev pub maskInvented : TurnAnswer → TurnAnswer
 maskInvented a =
     record {

@@ -1,13 +1,12 @@
 -- A reply put together from its pieces, and one that is refused.
 -- The idea: what the balance promises of its reply is all that is known of it, and the unit puts the balance back.
 use mathlib.Core.Path.{_≡_, refl, sym, ap, _∙_, subst}
-use mathlib.Core.Bool.{Bool, true, false, not}
+use mathlib.Core.Bool.{Bool, true, false, not, cond}
 use mathlib.Core.List.{List}
 use Prim.Native.Nat.{ℕ}
 use lib.Dec.{eqb}
 use lib.ListN.{length, set}
 use borrow.Author.Tests.{eq-eqb, ne-eqb}
-use Rattle.parts.specs.Parts.{pick}
 use Rattle.fdl.specs.declared.telegram.Telegram.{Telegram}
 use Rattle.peripheral.specs.declared.reply.Reply.{Reply}
 use Rattle.peripheral.specs.Reply.{Replied}

@@ -2,14 +2,13 @@
 -- The idea: an empty slot is passed, an occupied one is visited, and after one that sent nothing more happens;
 -- so going from occupied slot to occupied slot is the same as going slot by slot.
 use mathlib.Core.Path.{_≡_, refl, sym, ap, _∙_}
-use mathlib.Core.Bool.{Bool, true, false, _&&_, false≢true}
+use mathlib.Core.Bool.{Bool, true, false, _&&_, false≢true, cond}
 use mathlib.Core.List.{List}
 use Prim.Native.Nat.{ℕ, zero, suc, _+_, _-_, _≤_, _<_}
 use native.Mathlib.Omega.{arith}
 use lib.Dec.{ltb}
 use borrow.Author.Tests.{ltb-true, ltb-false}
 use lib.ListN.{getD, set}
-use Rattle.parts.specs.Parts.{pick}
 use Rattle.parts.proofs.Laws.{by-test, and-false}
 use Rattle.peripheral.specs.declared.record.Peripheral.{Peripheral}
 use Rattle.peripheral.specs.declared.visit.Visit.{Visit}
@@ -19,7 +18,7 @@ use Rattle.peripheral_set.specs.Marks.{slots, sameMark, searchFrom, nextAfter}
 use Rattle.peripheral_set.proofs.Laws.{search-found, search-from}
 use Rattle.cycle.specs.declared.seen.Seen.{Seen}
 use Rattle.cycle.specs.declared.seen.Sent.{Sent}
-use Rattle.cycle.specs.declared.seen.Sent.the-variants.{Nothing, To}
+use Rattle.cycle.specs.declared.seen.Sent.the-variants.{Nobody, To}
 use Rattle.cycle.specs.Seen.{seenBy, idle, nextIn}
 use Rattle.master.specs.declared.unit.DpMaster.{DpMaster}
 use Rattle.master.specs.Unit.{balancesAre}
@@ -29,8 +28,8 @@ module _ (limit : ℕ) (marks : List Bool) where
   -- with one slot more
   one-more : (k i : ℕ) (seen : Seen) (ps : List Peripheral)
       → sweepFrom (suc k) limit marks i seen ps
-      ≡ sweepFrom k limit marks (i + 1) (pick (getD marks i false && idle (seen .sent)) (seenBy i (wishesOf limit (getD ps i blank)) seen) seen)
-      (pick (getD marks i false && idle (seen .sent)) (set ps i (visitedBy limit (getD ps i blank))) ps)
+      ≡ sweepFrom k limit marks (i + 1) (cond (getD marks i false && idle (seen .sent)) (seenBy i (wishesOf limit (getD ps i blank)) seen) seen)
+      (cond (getD marks i false && idle (seen .sent)) (set ps i (visitedBy limit (getD ps i blank))) ps)
   unfolding sweepFrom
   one-more k i seen ps = refl
 
@@ -91,23 +90,23 @@ module _ (limit : ℕ) (marks : List Bool) where
   sweeping-all seen ps start i e = rw e (sweep-jump limit marks slots seen ps start)
 
   next-later : (sent : Sent) (i : ℕ) → i < slots → i < nextIn sent marks i
-  next-later Nothing i h = omega (arith, search-from slots true marks (slots - (i + 1)) (i + 1) (omega arith))
+  next-later Nobody i h = omega (arith, search-from slots true marks (slots - (i + 1)) (i + 1) (omega arith))
   next-later (To slot k) i h = h
 
   pub falls : (sent : Sent) (i next : ℕ) → i < slots → next ≡ nextIn sent marks i → slots - next < slots - i
   falls sent i next h e = rw e (omega (arith, next-later sent i h))
 
   next-whole : (sent : Sent) (seen : Seen) (ps : List Peripheral) (i : ℕ) → seen .sent ≡ sent → sweepFrom (slots - nextIn sent marks i) limit marks (nextIn sent marks i) seen ps ≡ sweepFrom (slots - (i + 1)) limit marks (i + 1) seen ps
-  next-whole Nothing seen ps i e = sym (sweep-jump limit marks slots seen ps (i + 1))
+  next-whole Nobody seen ps i e = sym (sweep-jump limit marks slots seen ps (i + 1))
   next-whole (To slot k) seen ps i e =
       sweep-none limit marks slots seen ps ∙ sym (sweep-stopped limit marks (slots - (i + 1)) (i + 1) seen ps (ap idle e))
 
   next-marked : (sent : Sent) (i : ℕ) → nextIn sent marks i < slots → getD marks (nextIn sent marks i) false ≡ true
-  next-marked Nothing i h = found (slots - (i + 1)) (i + 1) h
+  next-marked Nobody i h = found (slots - (i + 1)) (i + 1) h
   next-marked (To slot k) i h = absurd (omega arith)
 
   next-waiting : (sent : Sent) (i : ℕ) → nextIn sent marks i < slots → idle sent ≡ true
-  next-waiting Nothing i h = refl
+  next-waiting Nobody i h = refl
   next-waiting (To slot k) i h = absurd (omega arith)
 
   -- one visit v; next is the slot where the visits go on

@@ -1,16 +1,15 @@
 -- Creation, and a turn put together from its pieces or refused.
 -- The idea: the visits are named by what the loop left, and everything else cites them.
 use mathlib.Core.Path.{_≡_, refl, sym, ap, _∙_, subst}
-use mathlib.Core.Bool.{Bool, true, false}
+use mathlib.Core.Bool.{Bool, true, false, cond}
 use mathlib.Core.List.{List}
 use native.Mathlib.Omega.{arith}
 use Prim.Native.Nat.{ℕ}
 use lib.Dec.{eqb}
 use lib.ListN.{length, getD}
 use borrow.Author.Tests.{eq-eqb, ne-eqb}
-use Rattle.parts.specs.Parts.{pick}
 use Rattle.fdl.specs.declared.parameters.Parameters.{Parameters}
-use Rattle.fdl.specs.Params.{inRange, creationRefusal, held, lowest}
+use Rattle.fdl.specs.Params.{inRange, creationRefusal, inForce, lowest}
 use Rattle.peripheral.specs.declared.record.Peripheral.{Peripheral}
 use Rattle.peripheral.specs.Record.{blank}
 use Rattle.cycle.specs.declared.seen.Seen.{Seen}
@@ -27,15 +26,15 @@ use Rattle.master.specs.Turn.{Swept, turnPayload, turnAnswer, Turns}
 -- ---- creation
 
 module _ (u : Parameters) where
-  in-range : (b : Bool) → _≡_ {A = ℕ} (pick b 0 1) 0 → b ≡ true
+  in-range : (b : Bool) → _≡_ {A = ℕ} (cond b 0 1) 0 → b ≡ true
   in-range true e = refl
   in-range false e = absurd (omega arith)
 
-  out-of-range : (b : Bool) → (_≡_ {A = ℕ} (pick b 0 1) 0 → ⊥) → b ≡ false
+  out-of-range : (b : Bool) → (_≡_ {A = ℕ} (cond b 0 1) 0 → ⊥) → b ≡ false
   out-of-range true h = absurd (h refl)
   out-of-range false h = refl
 
-  pub created : (m : DpMaster) → creationRefusal u ≡ 0 → m ≡ emptyUnit (held u) → record { refusal = 0; master = m } ≡ createdOf u
+  pub created : (m : DpMaster) → creationRefusal u ≡ 0 → m ≡ emptyUnit (inForce u) → record { refusal = 0; master = m } ≡ createdOf u
   unfolding createdOf
   created m z e = rw (in-range (inRange u) z) (rw e refl)
 

@@ -2,14 +2,14 @@
 -- From 01, "The unit and its sizes" ("Adding takes the first empty slot, ..") with the refusals of "Refusal numbers".
 use mathlib.Core.Path.{_≡_}
 use Prim.Native.Nat.{ℕ, _+_}
-use mathlib.Core.Bool.{Bool, true, false}
+use mathlib.Core.Bool.{Bool, true, false, cond}
 use mathlib.Core.List.{List, []}
 use lib.ListN.{length, set}
 use lib.Dec.{eqb}
-use Rattle.parts.specs.Parts.{pick, putIn, zeros}
-use Rattle.telegrams.specs.declared.options.PeripheralOptions.{PeripheralOptions}
+use Rattle.parts.specs.Parts.{putIn, zeros}
+use Rattle.payloads.specs.declared.options.PeripheralOptions.{PeripheralOptions}
 use Rattle.peripheral.specs.declared.record.Ranges.{Ranges}
-use Rattle.peripheral.specs.Record.{newOf}
+use Rattle.peripheral.specs.Record.{newBalance}
 use Rattle.peripheral_set.specs.Marks.{firstEmpty}
 use Rattle.cycle.specs.declared.refusal.Used.{Used}
 use Rattle.cycle.specs.declared.refusal.Lengths.{Lengths}
@@ -20,10 +20,10 @@ use Rattle.master.specs.declared.add.Added.{Added}
 
 -- absent set-up data has the length 0, whatever is lent
 abbrev pub userOf : Addition → List ℕ → List ℕ
-userOf a user = pick (a .options .«has_user_parameters») user []
+userOf a user = cond (a .options .«has_user_parameters») user []
 
 abbrev pub configOf : Addition → List ℕ → List ℕ
-configOf a config = pick (a .options .«has_config») config []
+configOf a config = cond (a .options .«has_config») config []
 
 abbrev pub lengthsOf : Addition → List ℕ → List ℕ → Lengths
 lengthsOf a user config =
@@ -82,18 +82,18 @@ unitAdded m a l =
       parameters = m .parameters;
       used = usedAfter (m .used) l;
       occupied = set (m .occupied) (firstEmpty (m .occupied)) true;
-      peripherals = set (m .peripherals) (firstEmpty (m .occupied)) (newOf (a .address) (optionsHeld (a .options) l) (rangesAt (m .used) l));
+      peripherals = set (m .peripherals) (firstEmpty (m .occupied)) (newBalance (a .address) (optionsHeld (a .options) l) (rangesAt (m .used) l));
     }
 
 -- what an add promises: n is its refusal, l the lengths that it asks for
 pub record Adds (n : ℕ) (l : Lengths) (m : DpMaster) (a : Addition) (user config setup inputs outputs diags outSetup outInputs outOutputs outDiags : List ℕ) (r : Added) : Type 0 where
   pub refusal : r .refusal ≡ n
-  pub handle : r .handle ≡ pick (eqb n 0) (record { slot = firstEmpty (m .occupied); address = a .address }) (record { slot = 255; address = 255 })
-  pub after : r .master ≡ pick (eqb n 0) (unitAdded m a l) m
-  pub setupPool : outSetup ≡ pick (eqb n 0) (setupAfter (m .used .setup) user config setup) setup
-  pub inputPool : outInputs ≡ pick (eqb n 0) (cleared (m .used .inputs) (l .inputs) inputs) inputs
-  pub outputPool : outOutputs ≡ pick (eqb n 0) (cleared (m .used .outputs) (l .outputs) outputs) outputs
-  pub diagPool : outDiags ≡ pick (eqb n 0) (cleared (m .used .diags) (l .room) diags) diags
+  pub handle : r .handle ≡ cond (eqb n 0) (record { slot = firstEmpty (m .occupied); address = a .address }) (record { slot = 255; address = 255 })
+  pub after : r .master ≡ cond (eqb n 0) (unitAdded m a l) m
+  pub setupPool : outSetup ≡ cond (eqb n 0) (setupAfter (m .used .setup) user config setup) setup
+  pub inputPool : outInputs ≡ cond (eqb n 0) (cleared (m .used .inputs) (l .inputs) inputs) inputs
+  pub outputPool : outOutputs ≡ cond (eqb n 0) (cleared (m .used .outputs) (l .outputs) outputs) outputs
+  pub diagPool : outDiags ≡ cond (eqb n 0) (cleared (m .used .diags) (l .room) diags) diags
 
 -- the refusal of an add
 abbrev pub refusalOf : DpMaster → Addition → Lengths → List ℕ → List ℕ → List ℕ → List ℕ → ℕ

@@ -1,11 +1,10 @@
 -- What a caller asks of one balance: `reset_address`, and a wish for a diagnosis.
 -- From 01, "The unit and its sizes" and "Refusal numbers".
 use Prim.Native.Nat.{ℕ}
-use mathlib.Core.Bool.{Bool, true}
+use mathlib.Core.Bool.{Bool, true, cond}
 use mathlib.Core.List.{List}
 use lib.ListN.{set}
 use lib.Dec.{eqb}
-use Rattle.parts.specs.Parts.{pick}
 use Rattle.fdl.specs.declared.parameters.Parameters.{Parameters}
 use Rattle.station.specs.Record.{dueIs}
 use Rattle.peripheral.specs.declared.record.Peripheral.{Peripheral}
@@ -29,7 +28,7 @@ balanceIs slot p m = balancesAre (set (m .peripherals) (indexOf slot) p) m
 
 -- the number, and the changed unit where it is 0
 abbrev pub doneBy : ℕ → DpMaster → DpMaster → Done
-doneBy n changed m = record { refusal = n; master = pick (eqb n 0) changed m }
+doneBy n changed m = record { refusal = n; master = cond (eqb n 0) changed m }
 
 -- `reset_address` closes that balance's request
 unfoldable pub resetDone : DpMaster → PeripheralHandle → ℕ → Done

@@ -1,11 +1,11 @@
 -- One reply: the unit, the answer and the two pools afterwards.
 -- From 01, "One visit and one reply", its last line, with the refusals of "Refusal numbers".
 use mathlib.Core.Path.{_≡_}
+use mathlib.Core.Bool.{cond}
 use Prim.Native.Nat.{ℕ}
 use mathlib.Core.List.{List}
 use lib.ListN.{length, set}
 use lib.Dec.{eqb, leb}
-use Rattle.parts.specs.Parts.{pick}
 use Rattle.fdl.specs.Reply.{carried}
 use Rattle.fdl.specs.declared.telegram.Telegram.{Telegram}
 use Rattle.peripheral.specs.declared.record.Peripheral.{Peripheral}
@@ -49,10 +49,10 @@ unitReplied m r = stateIs (answered (nextSlot m) (m .state)) (balancesAre (set (
 
 -- what a reply promises: n is its refusal, is what its balance makes of it
 pub record Replies (n : ℕ) (is : Reply) (t : Telegram) (m : DpMaster) (payload inputs diags outInputs outDiags : List ℕ) (r : Answered) : Type 0 where
-  pub after : r .master ≡ pick (eqb n 0) (unitReplied m is) m
-  pub answer : r .answer ≡ pick (eqb n 0) (replyAnswer m is) (refusedReply n)
-  pub inputPool : outInputs ≡ pick (eqb n 0) (inputsOf (is .event) (carried t payload) (openBalance m) inputs) inputs
-  pub diagPool : outDiags ≡ pick (eqb n 0) (diagsOf (takes t (openBalance m) (length payload)) (openBalance m) payload diags) diags
+  pub after : r .master ≡ cond (eqb n 0) (unitReplied m is) m
+  pub answer : r .answer ≡ cond (eqb n 0) (replyAnswer m is) (refusedReply n)
+  pub inputPool : outInputs ≡ cond (eqb n 0) (inputsOf (is .event) (carried t payload) (openBalance m) inputs) inputs
+  pub diagPool : outDiags ≡ cond (eqb n 0) (diagsOf (takes t (openBalance m) (length payload)) (openBalance m) payload diags) diags
 
 abbrev pub Received : DpMaster → ℕ → Telegram → List ℕ → List ℕ → List ℕ → List ℕ → List ℕ → Answered → Type 0
 Received m address t payload inputs diags outInputs outDiags r =

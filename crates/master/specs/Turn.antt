@@ -2,11 +2,11 @@
 -- From 01, "One turn", with the refusals of "Refusal numbers".
 use mathlib.Core.Path.{_≡_}
 use Prim.Native.Nat.{ℕ, zero, suc, _+_, _-_}
-use mathlib.Core.Bool.{Bool, false, _&&_}
+use mathlib.Core.Bool.{Bool, false, _&&_, cond}
 use mathlib.Core.List.{List}
 use lib.ListN.{length, getD, set}
 use lib.Dec.{eqb}
-use Rattle.parts.specs.Parts.{pick, putIn}
+use Rattle.parts.specs.Parts.{putIn}
 use Rattle.peripheral.specs.declared.record.Peripheral.{Peripheral}
 use Rattle.peripheral.specs.Record.{blank}
 use Rattle.peripheral.specs.Visit.{wishesOf, visitedBy}
@@ -14,7 +14,7 @@ use Rattle.peripheral_set.specs.Marks.{slots}
 use Rattle.cycle.specs.declared.seen.Seen.{Seen}
 use Rattle.cycle.specs.declared.state.Step.{Step}
 use Rattle.cycle.specs.Seen.{nothingSeen, seenBy, idle, sentIndex}
-use Rattle.cycle.specs.State.{operatingOf, isClear, dueOf, stepOf, startOf, afterTurn}
+use Rattle.cycle.specs.State.{operatingOf, isClear, controlDue, stepOf, startOf, afterTurn}
 use Rattle.cycle.specs.Refusal.{turnRefusal}
 use Rattle.master.specs.declared.unit.DpMaster.{DpMaster}
 use Rattle.answers.specs.declared.turn.TurnAnswer.{TurnAnswer}
@@ -34,13 +34,13 @@ sweepFrom zero limit marks i seen ps = record { seen = seen; balances = ps }
 sweepFrom (suc n) limit marks i seen ps =
     let go : Bool = getD marks i false && idle (seen .sent) in
     let p : Peripheral = getD ps i blank in
-    sweepFrom n limit marks (i + 1) (pick go (seenBy i (wishesOf limit p) seen) seen) (pick go (set ps i (visitedBy limit p)) ps)
+    sweepFrom n limit marks (i + 1) (cond go (seenBy i (wishesOf limit p) seen) seen) (cond go (set ps i (visitedBy limit p)) ps)
 
 -- ---- what a turn does
 
 -- the step that a turn takes
 abbrev pub stepAt : ℕ → Bool → DpMaster → Step
-stepAt time high m = stepOf (operatingOf (m .state .operating)) (dueOf time high (m .parameters .«slot_time») (m .state)) (m .state .completed)
+stepAt time high m = stepOf (operatingOf (m .state .operating)) (controlDue time high (m .parameters .«slot_time») (m .state)) (m .state .completed)
 
 -- what the visits of a turn leave: they start at the place, and only step 4 has any
 unfoldable pub sweptBy : Step → DpMaster → Swept
@@ -69,9 +69,9 @@ turnAnswer step w m payload buf =
 
 -- what a turn promises: n is its refusal, step what it does, w what its visits leave, payload what it sends
 pub record Turns (n : ℕ) (step : Step) (w : Swept) (payload : List ℕ) (m : DpMaster) (time : ℕ) (buf out : List ℕ) (r : Turn) : Type 0 where
-  pub after : r .master ≡ pick (eqb n 0) (unitTurned step w time m) m
-  pub answer : r .answer ≡ pick (eqb n 0) (turnAnswer step w m payload buf) (refusedTurn n)
-  pub bytes : out ≡ pick (eqb n 0) (putIn 0 (length payload) payload buf) buf
+  pub after : r .master ≡ cond (eqb n 0) (unitTurned step w time m) m
+  pub answer : r .answer ≡ cond (eqb n 0) (turnAnswer step w m payload buf) (refusedTurn n)
+  pub bytes : out ≡ cond (eqb n 0) (putIn 0 (length payload) payload buf) buf
 
 abbrev pub Turned : DpMaster → ℕ → Bool → List ℕ → List ℕ → List ℕ → List ℕ → Turn → Type 0
 Turned m time high setup outputs buf out r =

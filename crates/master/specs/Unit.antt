@@ -1,12 +1,11 @@
 -- The unit: as created, with another state, and the balance in a slot.
 -- From 01, "The unit and its sizes" (a fresh unit) and "Refusal numbers" (what a refused creation returns).
 use Prim.Native.Nat.{ℕ}
-use mathlib.Core.Bool.{Bool, true, false}
+use mathlib.Core.Bool.{Bool, true, false, cond}
 use mathlib.Core.List.{List}
 use lib.ListN.{getD, replicate}
-use Rattle.parts.specs.Parts.{pick}
 use Rattle.fdl.specs.declared.parameters.Parameters.{Parameters}
-use Rattle.fdl.specs.Params.{inRange, held, lowest}
+use Rattle.fdl.specs.Params.{inRange, inForce, lowest}
 use Rattle.peripheral.specs.declared.record.Peripheral.{Peripheral}
 use Rattle.peripheral.specs.Record.{blank}
 use Rattle.peripheral_set.specs.Marks.{slots}
@@ -30,7 +29,7 @@ emptyUnit u =
 -- a refused creation returns 1 with an empty unit in Stop whose parameters are all at their lowest
 unfoldable pub createdOf : Parameters → Done
 createdOf u =
-    pick (inRange u) (record { refusal = 0; master = emptyUnit (held u) }) (record { refusal = 1; master = emptyUnit lowest })
+    cond (inRange u) (record { refusal = 0; master = emptyUnit (inForce u) }) (record { refusal = 1; master = emptyUnit lowest })
 
 -- the state of the cycle and one slot's balance: all that turns and replies change
 abbrev pub stateIs : DpMasterState → DpMaster → DpMaster

@@ -1,9 +1,10 @@
 // Adding a balance.
 ghost use mathlib.Core.Path.{_≡_};
+ghost use mathlib.Core.Bool.{cond};
 ghost use mathlib.Core.List.{[]};
 ghost use Prim.Native.Nat.{_+_, _≤_};
 ghost use lib.ListN.{length};
-ghost use Rattle.parts.specs.Parts.{pick, putIn};
+ghost use Rattle.parts.specs.Parts.{putIn};
 ghost use Rattle.cycle.specs.Refusal.{lengthRefusal, roomRefusal};
 ghost use Rattle.master.specs.Add.{rangesAt, usedAfter, optionsHeld, setupAfter, Adding};
 use crate::unit::DpMaster;
@@ -11,10 +12,10 @@ use cycle::refusal::Lengths;
 use cycle::refusal::Lent;
 use cycle::refusal::Used;
 use fdl::parameters::Parameters;
+use payloads::options::PeripheralOptions;
 use peripheral::record::Peripheral;
 use peripheral::record::Ranges;
 use peripheral_set::PeripheralHandle;
-use telegrams::options::PeripheralOptions;
 
 // The handle of the new balance; slot 255 and address 255 where the add is refused.
 pub struct Added {
@@ -34,7 +35,7 @@ pub struct Addition {
 
 // Set-up data where it is present, else none.
 fn present(has: bool, data: &[u8]) -> &[u8]
-    ensures { λ r. ⌜ now r ≡ pick has (now («data» .entry)) [] ⌝ }
+    ensures { λ r. ⌜ now r ≡ cond has (now («data» .entry)) [] ⌝ }
 {
     if has {
         return data;
@@ -63,7 +64,7 @@ fn end_of(pool: u16, used: u16, len: usize) -> u16
     requires { ⌜ used + len ≤ pool ⌝ }
     ensures { λ r. ⌜ r ≡ used + len ⌝ }
 {
-    (parts::place(used) + len) as u16
+    (parts::widen16(used) + len) as u16
 }
 
 // The used parts with those ranges.
@@ -94,7 +95,7 @@ fn options_held(o: PeripheralOptions, l: Lengths) -> PeripheralOptions
 fn store_setup(setup: &mut [u8], at: u16, user: &[u8], config: &[u8])
     ensures { λ _. ⌜ now (setup .exit) ≡ setupAfter at (now (user .entry)) (now (config .entry)) (now (setup .entry)) ⌝ }
 {
-    let start = parts::place(at);
+    let start = parts::widen16(at);
     let count = user.len();
     parts::copy_at(setup, start, count, user);
     parts::copy_at(setup, start + count, config.len(), config);
@@ -152,9 +153,9 @@ impl DpMaster {
         let after = used_after(u, used, l);
         m.used = after;
         store_setup(setup, used.setup, user_data, config_data);
-        parts::clear_at(inputs, parts::place(used.inputs), a.input_len);
-        parts::clear_at(outputs, parts::place(used.outputs), a.output_len);
-        parts::clear_at(diags, parts::place(used.diags), a.room);
+        parts::clear_at(inputs, parts::widen16(used.inputs), a.input_len);
+        parts::clear_at(outputs, parts::widen16(used.outputs), a.output_len);
+        parts::clear_at(diags, parts::widen16(used.diags), a.room);
         let handle = PeripheralHandle {
             slot: slot as u8,
             address: a.address,

@@ -48,7 +48,7 @@ impl DpMaster {
             let q = v.peripheral;
             let what = v.what;
             m.peripherals[i] = q;
-            seen = seen.visited(i as u8, what);
+            seen = seen.seen_after(i as u8, what);
             i = seen.next(marks, i);
         }
         let sent = seen.sent;

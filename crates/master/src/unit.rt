@@ -57,7 +57,7 @@ impl DpMaster {
         if refusal == 0 {
             return Done {
                 refusal: 0,
-                master: empty_unit(parameters.held()),
+                master: empty_unit(parameters.in_force()),
             };
         }
         Done {

@@ -2,7 +2,7 @@
 -- The idea: a splice is three pieces, and a part of it lies in one of them; `putIn` is a splice or nothing, so its laws need no bounds.
 use mathlib.Core.Path.{_≡_, refl, sym, ap, _∙_, subst}
 use mathlib.Core.Logic.{_⊎_, inl, inr, ⊎-elim}
-use mathlib.Core.Bool.{Bool, true, false, _&&_, false≢true}
+use mathlib.Core.Bool.{Bool, true, false, _&&_, false≢true, cond}
 use mathlib.Core.List.{List, [], _∷_, _++_, append-assoc, append-nil}
 use Prim.Native.Nat.{ℕ, zero, suc, _+_, _-_, _≤_, _<_}
 use native.Mathlib.Nat.{add-assoc}
@@ -13,7 +13,7 @@ use lib.Seq.{length-take-le, take-append-le, drop-append-le, take-append-seam, d
 use lib.Dec.{leb}
 use borrow.Author.Tests.{le-leb, lt-leb, leb-true, leb-false}
 use denote.Ref.{RefT}
-use Rattle.parts.specs.Parts.{pick, inside, part, View, Itself, SamePart, splice, roomFor, putIn, Put}
+use Rattle.parts.specs.Parts.{inside, part, View, Itself, SamePart, splice, roomFor, putIn, Put}
 
 -- ---- a test that is known, and one that is not
 
@@ -126,7 +126,7 @@ pub part-out : (at len : ℕ) (l : List ℕ) → inside at len l ≡ false → p
 unfolding part
 part-out at len l e = rw e
 
-pub length-part : (at len : ℕ) (l : List ℕ) → length (part at len l) ≡ pick (inside at len l) len 0
+pub length-part : (at len : ℕ) (l : List ℕ) → length (part at len l) ≡ cond (inside at len l) len 0
 length-part at len l =
     by-test (inside at len l)
     (λ e. ap length (part-in at len l e) ∙ length-take-le len (drop at l) (simp length-drop (omega (arith, inside-le at len l e))) ∙ rw e refl)
@@ -135,7 +135,7 @@ length-part at len l =
 -- two lists that agree where the range lies have the same part
 part-by-window : (at len : ℕ) (l m : List ℕ) → length l ≡ length m → take len (drop at l) ≡ take len (drop at m) → part at len l ≡ part at len m
 unfolding part
-part-by-window at len l m e w = rw (inside-length at len l m e) (ap (λ (x : List ℕ). pick (inside at len m) x []) w)
+part-by-window at len l m e w = rw (inside-length at len l m e) (ap (λ (x : List ℕ). cond (inside at len m) x []) w)
 
 -- a part `&l[a..e]`, as the borrow checker states it
 pub span : (at end len : ℕ) (l : List ℕ) → end ≡ at + len → inside at len l ≡ true → take (end - at) (drop at l) ≡ part at len l
@@ -201,7 +201,7 @@ module _ (at room : ℕ) (new old : List ℕ) where
   inside-put a n = inside-length a n (putIn at room new old) old length-put
 
   -- the part just written
-  pub part-put : part at (length new) (putIn at room new old) ≡ pick (roomFor at room new old) new (part at (length new) old)
+  pub part-put : part at (length new) (putIn at room new old) ≡ cond (roomFor at room new old) new (part at (length new) old)
   part-put =
       by-test (roomFor at room new old)
       (λ e.

@@ -3,16 +3,11 @@
 -- Every word is total: a range that does not lie in the list reads as empty, and nothing is put there.
 use mathlib.Core.Path.{_≡_}
 use Prim.Native.Nat.{ℕ, _+_}
-use mathlib.Core.Bool.{Bool, true, false, _&&_}
+use mathlib.Core.Bool.{Bool, true, false, _&&_, cond}
 use mathlib.Core.List.{List, [], _++_}
 use lib.ListN.{length, take, drop, replicate}
 use lib.Dec.{leb}
 use denote.Ref.{RefT, now}
-
--- the first where the test holds, else the second
-abbrev pub pick {ℓ} : {A : Type ℓ} → Bool → A → A → A
-pick true a b = a
-pick false a b = b
 
 -- the range of len elements from index at lies in l
 unfoldable pub inside : ℕ → ℕ → List ℕ → Bool
@@ -20,7 +15,7 @@ inside at len l = leb (at + len) (length l)
 
 -- the elements of that range; none where it does not lie in l
 unfoldable pub part : ℕ → ℕ → List ℕ → List ℕ
-part at len l = pick (inside at len l) (take len (drop at l)) []
+part at len l = cond (inside at len l) (take len (drop at l)) []
 
 -- a part with its place: where it starts in its list, and its elements
 pub record View : Type 0 where
@@ -29,7 +24,7 @@ pub record View : Type 0 where
 
 -- the view of that range; at the front, and empty, where it does not lie in l
 abbrev pub viewAt : ℕ → ℕ → List ℕ → View
-viewAt at len l = record { start = pick (inside at len l) at 0; bytes = part at len l }
+viewAt at len l = record { start = cond (inside at len l) at 0; bytes = part at len l }
 
 -- r is that view of the lent slice src itself, and no copy or other part with the same bytes: it lies in src's block, so far behind its start
 pub record Itself (v : View) (src r : RefT (List ℕ)) : Type 0 where
@@ -51,7 +46,7 @@ roomFor at room new old = leb (length new) room && inside at room old
 
 -- old with new at the start of that range where it fits; else old as it is
 unfoldable pub putIn : ℕ → ℕ → List ℕ → List ℕ → List ℕ
-putIn at room new old = pick (roomFor at room new old) (splice at new old) old
+putIn at room new old = cond (roomFor at room new old) (splice at new old) old
 
 -- so many zero bytes
 abbrev pub zeros : ℕ → List ℕ

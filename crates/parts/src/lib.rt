@@ -7,14 +7,14 @@ ghost use lib.ListN.{getD};
 ghost use Rattle.parts.specs.Parts.{zeros, Put, viewAt, Itself};
 
 // An offset, widened where it is used.
-pub fn place(at: u16) -> usize
+pub fn widen16(at: u16) -> usize
     ensures { λ r. ⌜ (r ≡ at) × (r < 65536) ⌝ }
 {
     at as usize
 }
 
 // A length, widened where it is used.
-pub fn size(len: u8) -> usize
+pub fn widen8(len: u8) -> usize
     ensures { λ r. ⌜ (r ≡ len) × (r < 256) ⌝ }
 {
     len as usize

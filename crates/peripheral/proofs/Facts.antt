@@ -1,20 +1,20 @@
 -- What the pieces of a reply leave, put together to what the whole reply leaves.
 -- The idea: what a state waits for decides which piece there is, and what the others would have been does not matter to it.
 use mathlib.Core.Path.{_≡_, refl, sym, ap, _∙_}
-use mathlib.Core.Bool.{Bool, true, false, _&&_}
+use mathlib.Core.Bool.{Bool, true, false, _&&_, cond}
 use mathlib.Core.List.{List, []}
 use Prim.Native.Nat.{ℕ, _/_, _%_}
 use native.Mathlib.Omega.{arith}
 use lib.ListN.{length, drop}
 use lib.Dec.{leb, eqb}
 use borrow.Author.Tests.{le-leb, eqb-true, eq-eqb, ne-eqb}
-use Rattle.parts.specs.Parts.{pick, inside, roomFor, Put}
+use Rattle.parts.specs.Parts.{inside, roomFor, Put}
 use Rattle.parts.proofs.Laws.{by-test, put-kept, put-nothing, room-outside, and-false}
 use Rattle.fdl.specs.Reply.{hasData, carried}
 use Rattle.fdl.specs.declared.telegram.Telegram.{Telegram}
 use Rattle.fdl.specs.declared.telegram.Telegram.the-variants.{ShortConfirmation, Data, Token, Request}
-use Rattle.telegrams.specs.declared.diagnosis.DiagnosticsInfo.{DiagnosticsInfo}
-use Rattle.telegrams.specs.Diagnosis.{taken, diagnosisOf, extended, ExtStored}
+use Rattle.payloads.specs.declared.diagnosis.DiagnosticsInfo.{DiagnosticsInfo}
+use Rattle.payloads.specs.Diagnosis.{taken, diagnosisOf, extended, ExtStored}
 use Rattle.station.specs.declared.record.Station.{Station}
 use Rattle.station.specs.declared.reply.Heard.{Heard}
 use Rattle.station.specs.Record.{tookOf}
@@ -79,10 +79,10 @@ module _ (t : Telegram) (p : Peripheral) (payload inputs : List ℕ) where
   no-data e = no-image (rw e refl)
 
   -- a short confirmation carries nothing, and leaves the pool as it was
-  image-pool : (fits : Bool) → pick (hasData t && fits) (withImage p payload inputs) inputs ≡ pick (exchanges t (eqb (p .ranges .«input_len») 0) fits) (withImage p (carried t payload) inputs) inputs
+  image-pool : (fits : Bool) → cond (hasData t && fits) (withImage p payload inputs) inputs ≡ cond (exchanges t (eqb (p .ranges .«input_len») 0) fits) (withImage p (carried t payload) inputs) inputs
   image-pool = by-kind t
     where
-      by-kind : (k : Telegram) (fits : Bool) → pick (hasData k && fits) (withImage p payload inputs) inputs ≡ pick (exchanges k (eqb (p .ranges .«input_len») 0) fits) (withImage p (carried k payload) inputs) inputs
+      by-kind : (k : Telegram) (fits : Bool) → cond (hasData k && fits) (withImage p payload inputs) inputs ≡ cond (exchanges k (eqb (p .ranges .«input_len») 0) fits) (withImage p (carried k payload) inputs) inputs
       by-kind ShortConfirmation fits =
           by-test (eqb (p .ranges .«input_len») 0) (λ z. rw z (rw (eqb-true (p .ranges .«input_len») 0 z) (sym (put-nothing (p .ranges .inputs) inputs)))) (λ z. rw z refl)
       by-kind (Data dsap ssap status) fits = refl

@@ -1,19 +1,19 @@
 -- What a visit and a reply keep of a balance, and what a reply does to the input pool.
 -- The idea: both change the station alone; and the pool changes only where DataExchanged is reported, and then only in the image's range.
 use mathlib.Core.Path.{_≡_, refl, sym, ap, _∙_}
-use mathlib.Core.Bool.{Bool, true, false, _&&_, false≢true}
+use mathlib.Core.Bool.{Bool, true, false, _&&_, false≢true, cond}
 use mathlib.Core.Logic.{_⊎_}
 use mathlib.Core.List.{List, []}
 use Prim.Native.Nat.{ℕ, _+_, _≤_}
 use lib.ListN.{length}
 use lib.Dec.{eqb}
 use borrow.Author.Tests.{eqb-true}
-use Rattle.parts.specs.Parts.{pick, inside, part, roomFor}
+use Rattle.parts.specs.Parts.{inside, part, roomFor}
 use Rattle.parts.proofs.Laws.{by-test, and-left, and-right, room-own, part-put, part-put-other, length-put, length-part}
 use Rattle.fdl.specs.Reply.{hasData, carried}
 use Rattle.fdl.specs.declared.telegram.Telegram.{Telegram}
 use Rattle.fdl.specs.declared.telegram.Telegram.the-variants.{ShortConfirmation, Data, Token, Request}
-use Rattle.telegrams.specs.Diagnosis.{taken}
+use Rattle.payloads.specs.Diagnosis.{taken}
 use Rattle.station.specs.declared.visit.Visited.{Visited}
 use Rattle.station.specs.declared.reply.Heard.{Heard}
 use Rattle.station.specs.declared.state.PeripheralEvent.{PeripheralEvent}

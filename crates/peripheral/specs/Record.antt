@@ -4,9 +4,9 @@ use Prim.Native.Nat.{ℕ, _+_}
 use mathlib.Core.Bool.{false}
 use mathlib.Core.List.{List}
 use Rattle.parts.specs.Parts.{part, View, viewAt}
-use Rattle.telegrams.specs.declared.options.PeripheralOptions.{PeripheralOptions}
+use Rattle.payloads.specs.declared.options.PeripheralOptions.{PeripheralOptions}
 use Rattle.station.specs.declared.record.Station.{Station}
-use Rattle.station.specs.Record.{newOf as newStation, storedPart}
+use Rattle.station.specs.Record.{newStation, storedPart}
 use Rattle.peripheral.specs.declared.record.Ranges.{Ranges}
 use Rattle.peripheral.specs.declared.record.Peripheral.{Peripheral}
 
@@ -41,8 +41,8 @@ blank =
     }
 
 -- as newly added
-abbrev pub newOf : ℕ → PeripheralOptions → Ranges → Peripheral
-newOf a o r = record { station = newStation a; ranges = r; options = o }
+abbrev pub newBalance : ℕ → PeripheralOptions → Ranges → Peripheral
+newBalance a o r = record { station = newStation a; ranges = r; options = o }
 
 -- with another station: all that visits and replies change
 abbrev pub stationIs : Station → Peripheral → Peripheral
@@ -50,7 +50,7 @@ stationIs s p = record { station = s; ranges = p .ranges; options = p .options }
 
 -- set-up data and images stay where they are; all else is as newly added
 abbrev pub resetOf : Peripheral → ℕ → Peripheral
-resetOf p a = newOf a (p .options) (p .ranges)
+resetOf p a = newBalance a (p .options) (p .ranges)
 
 -- ---- its parts of the pools: each with its place, and its bytes
 

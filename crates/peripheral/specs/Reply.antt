@@ -2,14 +2,14 @@
 -- From 01, "One visit and one reply": the paragraph on diagnosis replies, and the list by state.
 use mathlib.Core.Path.{_≡_}
 use Prim.Native.Nat.{ℕ}
-use mathlib.Core.Bool.{Bool, _&&_}
+use mathlib.Core.Bool.{Bool, _&&_, cond}
 use mathlib.Core.List.{List}
 use lib.ListN.{length, drop}
 use lib.Dec.{eqb}
-use Rattle.parts.specs.Parts.{pick, inside, roomFor, putIn}
+use Rattle.parts.specs.Parts.{inside, roomFor, putIn}
 use Rattle.fdl.specs.Reply.{hasData, carried}
 use Rattle.fdl.specs.declared.telegram.Telegram.{Telegram}
-use Rattle.telegrams.specs.Diagnosis.{taken, diagnosisOf, extended}
+use Rattle.payloads.specs.Diagnosis.{taken, diagnosisOf, extended}
 use Rattle.station.specs.declared.record.Station.{Station}
 use Rattle.station.specs.declared.reply.Heard.{Heard}
 use Rattle.station.specs.declared.state.PeripheralEvent.{PeripheralEvent}
@@ -26,13 +26,13 @@ use Rattle.peripheral.specs.Record.{stationIs}
 -- how many bytes are stored then: the part from byte 6 where it is handed on and fits its room, else as before
 unfoldable pub storedLength : Peripheral → List ℕ → List ℕ → ℕ
 storedLength p payload diags =
-    pick (extended payload)
-    (pick (roomFor (p .ranges .diag) (p .ranges .«diag_room») (drop 6 payload) diags) (length (drop 6 payload)) (p .station .«diag_len»))
+    cond (extended payload)
+    (cond (roomFor (p .ranges .diag) (p .ranges .«diag_room») (drop 6 payload) diags) (length (drop 6 payload)) (p .station .«diag_len»))
     (p .station .«diag_len»)
 
 -- the pool then
 unfoldable pub diagsTaken : Peripheral → List ℕ → List ℕ → List ℕ
-diagsTaken p payload diags = pick (extended payload) (putIn (p .ranges .diag) (p .ranges .«diag_room») (drop 6 payload) diags) diags
+diagsTaken p payload diags = cond (extended payload) (putIn (p .ranges .diag) (p .ranges .«diag_room») (drop 6 payload) diags) diags
 
 -- the station then
 unfoldable pub stationTook : Peripheral → List ℕ → List ℕ → Station
@@ -40,11 +40,11 @@ stationTook p payload diags = tookOf (diagnosisOf payload) (storedLength p paylo
 
 -- the pool after a reply that was taken or not
 abbrev pub diagsOf : Bool → Peripheral → List ℕ → List ℕ → List ℕ
-diagsOf took p payload diags = pick took (diagsTaken p payload diags) diags
+diagsOf took p payload diags = cond took (diagsTaken p payload diags) diags
 
 pub record Handled (t : Telegram) (p : Peripheral) (payload diags out : List ℕ) (r : Response) : Type 0 where
   pub answer : r .taken ≡ taken t (length payload)
-  pub after : r .station ≡ pick (taken t (length payload)) (stationTook p payload diags) (p .station)
+  pub after : r .station ≡ cond (taken t (length payload)) (stationTook p payload diags) (p .station)
   pub bytes : out ≡ diagsOf (taken t (length payload)) p payload diags
 
 -- ---- the input image
@@ -59,11 +59,11 @@ withImage p came inputs = putIn (p .ranges .inputs) (p .ranges .«input_len») c
 
 pub record ImageStored (t : Telegram) (p : Peripheral) (payload inputs out : List ℕ) (r : Bool) : Type 0 where
   pub answer : r ≡ (hasData t && isImage p payload inputs)
-  pub bytes : out ≡ pick (hasData t && isImage p payload inputs) (withImage p payload inputs) inputs
+  pub bytes : out ≡ cond (hasData t && isImage p payload inputs) (withImage p payload inputs) inputs
 
 -- the pool after an event: with DataExchanged it has what came, else it is as it was
 abbrev pub inputsOf : PeripheralEvent → List ℕ → Peripheral → List ℕ → List ℕ
-inputsOf e came p inputs = pick (isExchanged e) (withImage p came inputs) inputs
+inputsOf e came p inputs = cond (isExchanged e) (withImage p came inputs) inputs
 
 -- ---- the reply
 

@@ -1,17 +1,17 @@
 -- A visit to a balance: what it does, the balance afterwards, and what it sends.
 -- From 01, "One visit and one reply": the first paragraph and the table of requests.
 use Prim.Native.Nat.{ℕ}
-use mathlib.Core.Bool.{Bool}
+use mathlib.Core.Bool.{Bool, cond}
 use mathlib.Core.List.{List, [], _++_}
 use lib.ListN.{length}
-use Rattle.parts.specs.Parts.{pick, zeros}
+use Rattle.parts.specs.Parts.{zeros}
 use Rattle.fdl.specs.Bits.{bitOf}
 use Rattle.fdl.specs.declared.parameters.Parameters.{Parameters as Unit}
 use Rattle.fdl.specs.declared.telegram.DataTelegramHeader.{DataTelegramHeader}
-use Rattle.telegrams.specs.declared.request.Request.{Request}
-use Rattle.telegrams.specs.declared.request.Request.the-variants.{Diagnosis, Parameters, Configuration, Data}
-use Rattle.telegrams.specs.Request.{headerOf}
-use Rattle.telegrams.specs.Payload.{paramHead}
+use Rattle.payloads.specs.declared.request.Request.{Request}
+use Rattle.payloads.specs.declared.request.Request.the-variants.{Diagnosis, Parameters, Configuration, Data}
+use Rattle.payloads.specs.Request.{headerOf}
+use Rattle.payloads.specs.Payload.{paramHead}
 use Rattle.station.specs.declared.visit.Visited.{Visited}
 use Rattle.station.specs.Visit.{wishOf, visitedOf}
 use Rattle.peripheral.specs.declared.record.Peripheral.{Peripheral}
@@ -39,4 +39,4 @@ unfoldable pub payloadOf : Request → Unit → Bool → Peripheral → List ℕ
 payloadOf Diagnosis u clear p setup outputs = []
 payloadOf Parameters u clear p setup outputs = paramHead u (p .options) ++ userPart p setup
 payloadOf Configuration u clear p setup outputs = configPart p setup
-payloadOf Data u clear p setup outputs = pick clear (zeros (length (outputImage p outputs))) (outputImage p outputs)
+payloadOf Data u clear p setup outputs = cond clear (zeros (length (outputImage p outputs))) (outputImage p outputs)

@@ -3,10 +3,10 @@ ghost use mathlib.Core.Path.{_≡_};
 ghost use mathlib.Core.Bool.{true};
 ghost use Rattle.parts.specs.Parts.{Itself};
 ghost use Rattle.station.specs.Record.{dueIs, isLive, isRunning, lastDiagnosis};
-ghost use Rattle.peripheral.specs.Record.{blank, newOf, resetOf, stationIs, inputView, outputView, extendedView};
+ghost use Rattle.peripheral.specs.Record.{blank, newBalance, resetOf, stationIs, inputView, outputView, extendedView};
+use payloads::diagnosis::DiagnosticsInfo;
+use payloads::options::PeripheralOptions;
 use station::record::Station;
-use telegrams::diagnosis::DiagnosticsInfo;
-use telegrams::options::PeripheralOptions;
 
 // Where the four ranges stand in their pools. The set-up range is as long as its user parameters and configuration.
 #[repr(C)]
@@ -77,7 +77,7 @@ impl Peripheral {
     }
 
     pub fn new(address: u8, options: PeripheralOptions, ranges: Ranges) -> Peripheral
-        ensures { λ r. ⌜ r ≡ newOf address options ranges ⌝ }
+        ensures { λ r. ⌜ r ≡ newBalance address options ranges ⌝ }
     {
         let station = Station::new(address);
         Peripheral {
@@ -143,8 +143,8 @@ impl Peripheral {
     {
         parts::part(
             diags,
-            parts::place(self.ranges.diag),
-            parts::size(self.station.stored_part()),
+            parts::widen16(self.ranges.diag),
+            parts::widen8(self.station.stored_part()),
         )
     }
 
@@ -154,8 +154,8 @@ impl Peripheral {
     {
         parts::part(
             inputs,
-            parts::place(self.ranges.inputs),
-            parts::size(self.ranges.input_len),
+            parts::widen16(self.ranges.inputs),
+            parts::widen8(self.ranges.input_len),
         )
     }
 
@@ -165,8 +165,8 @@ impl Peripheral {
     {
         parts::part(
             outputs,
-            parts::place(self.ranges.outputs),
-            parts::size(self.ranges.output_len),
+            parts::widen16(self.ranges.outputs),
+            parts::widen8(self.ranges.output_len),
         )
     }
 
@@ -176,8 +176,8 @@ impl Peripheral {
     {
         parts::part_mut(
             outputs,
-            parts::place(self.ranges.outputs),
-            parts::size(self.ranges.output_len),
+            parts::widen16(self.ranges.outputs),
+            parts::widen8(self.ranges.output_len),
         )
     }
 }

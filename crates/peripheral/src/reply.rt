@@ -3,10 +3,10 @@ ghost use mathlib.Core.Path.{_≡_};
 ghost use Rattle.peripheral.specs.Reply.{withHeard, Handled, ImageStored, Replied};
 use crate::record::Peripheral;
 use fdl::telegram::Telegram;
+use payloads::diagnosis;
 use station::record::Station;
 use station::reply::Heard;
 use station::state::PeripheralEvent;
-use telegrams::diagnosis;
 
 // A reply that may be a diagnosis: whether it was taken, and the station then.
 pub struct Response {
@@ -35,7 +35,7 @@ impl Peripheral {
             let d = diagnosis::read_diagnosis(payload);
             let flags = d.flags;
             if flags / 0x0008 % 2 == 1 {
-                let at = parts::place(self.ranges.diag);
+                let at = parts::widen16(self.ranges.diag);
                 let stored = diagnosis::store_extended(
                     diags,
                     at,
@@ -63,10 +63,10 @@ impl Peripheral {
     fn store_image(self, telegram: Telegram, payload: &[u8], inputs: &mut [u8]) -> bool
         ensures { λ r. ⌜ ImageStored telegram self (now (payload .entry)) (now (inputs .entry)) (now (inputs .exit)) r ⌝ }
     {
-        let len = parts::size(self.ranges.input_len);
+        let len = parts::widen8(self.ranges.input_len);
         if telegram.has_data() {
             if payload.len() == len {
-                return parts::copy_at(inputs, parts::place(self.ranges.inputs), len, payload);
+                return parts::copy_at(inputs, parts::widen16(self.ranges.inputs), len, payload);
             }
         }
         false

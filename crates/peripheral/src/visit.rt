@@ -1,13 +1,13 @@
 // The visit that a turn makes to a peripheral.
 ghost use mathlib.Core.Path.{_≡_};
-ghost use Rattle.telegrams.specs.Payload.{Written};
+ghost use Rattle.payloads.specs.Payload.{Written};
 ghost use Rattle.peripheral.specs.Visit.{visitOf, requestHeader, payloadOf};
 use crate::record::Peripheral;
 use fdl::parameters::Parameters;
 use fdl::telegram::DataTelegramHeader;
 use fdl::telegram::FrameCountBit;
+use payloads::request::Request;
 use station::visit::Visited;
-use telegrams::request::Request;
 
 // The peripheral after a visit, and what the visit does.
 pub struct Visit {
@@ -63,25 +63,25 @@ impl Peripheral {
     ) -> usize
         ensures { λ r. ⌜ Written (payloadOf kind u clear self (now (setup .entry)) (now (outputs .entry))) (now (buf .entry)) (now (buf .exit)) r ⌝ }
     {
-        let at = parts::place(self.ranges.setup);
-        let count = parts::size(self.options.user_parameters);
+        let at = parts::widen16(self.ranges.setup);
+        let count = parts::widen8(self.options.user_parameters);
         match kind {
-            Request::Diagnosis => telegrams::write::write_zeros(0, buf),
+            Request::Diagnosis => payloads::write::write_zeros(0, buf),
             Request::Parameters => {
                 let user = parts::part(setup, at, count);
                 let options = self.options;
-                telegrams::write::write_parameters(u, options, user, buf)
+                payloads::write::write_parameters(u, options, user, buf)
             }
             Request::Configuration => {
-                let config = parts::part(setup, at + count, parts::size(self.options.config));
-                telegrams::write::write_bytes(config, buf)
+                let config = parts::part(setup, at + count, parts::widen8(self.options.config));
+                payloads::write::write_bytes(config, buf)
             }
             Request::Data => {
                 let image = self.pi_q(outputs);
                 if clear {
-                    return telegrams::write::write_zeros(image.len(), buf);
+                    return payloads::write::write_zeros(image.len(), buf);
                 }
-                telegrams::write::write_bytes(image, buf)
+                payloads::write::write_bytes(image, buf)
             }
         }
     }

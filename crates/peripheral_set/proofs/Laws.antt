@@ -1,14 +1,13 @@
 -- The laws of the search and of the listing, over any number of slots.
 -- The idea: a search looks at one slot and then goes on; what it passed had the other mark, and what it found has the wanted one.
 use mathlib.Core.Path.{_≡_, refl, sym, ap, _∙_}
-use mathlib.Core.Bool.{Bool, true, false, not, _&&_}
+use mathlib.Core.Bool.{Bool, true, false, not, _&&_, cond}
 use mathlib.Core.Logic.{_⊎_, inl, inr, ⊎-elim, by-cases}
 use mathlib.Core.List.{List, [], _∷_}
 use Prim.Native.Nat.{ℕ, zero, suc, _+_, _-_, _≤_, _<_}
 use native.Mathlib.Decide.{decLe}
 use native.Mathlib.Omega.{arith}
 use lib.ListN.{length, getD}
-use Rattle.parts.specs.Parts.{pick}
 use Rattle.parts.proofs.Laws.{by-test}
 use Rattle.peripheral_set.specs.Marks.{sameMark, searchFrom, listedFrom}
 
@@ -16,7 +15,7 @@ module _ (none : ℕ) (want : Bool) (n : ℕ) (marks : List Bool) (i : ℕ) wher
   one-left : i < n → n - i ≡ suc (n - (i + 1))
   one-left l = omega arith
 
-  pub search-step : i < n → searchFrom none want (n - i) marks i ≡ pick (sameMark want (getD marks i false)) i (searchFrom none want (n - (i + 1)) marks (i + 1))
+  pub search-step : i < n → searchFrom none want (n - i) marks i ≡ cond (sameMark want (getD marks i false)) i (searchFrom none want (n - (i + 1)) marks (i + 1))
   unfolding searchFrom
   search-step l = rw (one-left l) refl
 
@@ -30,7 +29,7 @@ module _ (none : ℕ) (want : Bool) (n : ℕ) (marks : List Bool) (i : ℕ) wher
   unfolding searchFrom
   search-none l = let z : n - i ≡ 0 = omega arith in rw z refl
 
-  pub listed-step : i < n → listedFrom (n - i) marks i ≡ pick (getD marks i false) (i ∷ listedFrom (n - (i + 1)) marks (i + 1)) (listedFrom (n - (i + 1)) marks (i + 1))
+  pub listed-step : i < n → listedFrom (n - i) marks i ≡ cond (getD marks i false) (i ∷ listedFrom (n - (i + 1)) marks (i + 1)) (listedFrom (n - (i + 1)) marks (i + 1))
   unfolding listedFrom
   listed-step l = rw (one-left l) refl
 

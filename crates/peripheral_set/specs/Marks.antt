@@ -1,11 +1,10 @@
 -- Which slots are occupied: the first empty one, the next occupied one, the listing, and when a handle is refused.
 -- From 01, "The unit and its sizes" (adding, handles), "One turn" (occupied slots upward), "Refusal numbers", No. 4, and "iter".
 use Prim.Native.Nat.{ℕ, zero, suc, _+_, _-_}
-use mathlib.Core.Bool.{Bool, true, false, not, _&&_}
+use mathlib.Core.Bool.{Bool, true, false, not, _&&_, cond}
 use mathlib.Core.List.{List, [], _∷_}
 use lib.ListN.{getD}
 use lib.Dec.{ltb}
-use Rattle.parts.specs.Parts.{pick}
 use Rattle.peripheral_set.specs.declared.PeripheralHandle.{PeripheralHandle}
 
 -- the number of slots
@@ -20,7 +19,7 @@ sameMark false m = not m
 -- among n slots from i on: the first whose mark is the wanted one, else none
 unfoldable pub searchFrom : ℕ → Bool → ℕ → List Bool → ℕ → ℕ
 searchFrom none want zero marks i = none
-searchFrom none want (suc n) marks i = pick (sameMark want (getD marks i false)) i (searchFrom none want n marks (i + 1))
+searchFrom none want (suc n) marks i = cond (sameMark want (getD marks i false)) i (searchFrom none want n marks (i + 1))
 
 -- adding takes the first empty slot
 abbrev pub firstEmpty : List Bool → ℕ
@@ -41,11 +40,11 @@ isOccupied marks slot = ltb slot slots && getD marks slot false
 -- the occupied among n slots from i on, in rising order
 unfoldable pub listedFrom : ℕ → List Bool → ℕ → List ℕ
 listedFrom zero marks i = []
-listedFrom (suc n) marks i = let rest : List ℕ = listedFrom n marks (i + 1) in pick (getD marks i false) (i ∷ rest) rest
+listedFrom (suc n) marks i = let rest : List ℕ = listedFrom n marks (i + 1) in cond (getD marks i false) (i ∷ rest) rest
 
 abbrev pub listed : List Bool → List ℕ
 listed marks = listedFrom slots marks 0
 
 -- 4: the handle's slot is empty, or above the last
 abbrev pub handleRefusal : PeripheralHandle → List Bool → ℕ
-handleRefusal h marks = pick (isOccupied marks (h .slot)) 0 4
+handleRefusal h marks = cond (isOccupied marks (h .slot)) 0 4

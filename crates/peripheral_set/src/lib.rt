@@ -118,7 +118,7 @@ impl PeripheralHandle {
     pub fn refusal(self, marks: [bool; SLOTS]) -> u8
         ensures { λ r. ⌜ r ≡ handleRefusal self marks ⌝ }
     {
-        if is_occupied(marks, parts::size(self.slot)) {
+        if is_occupied(marks, parts::widen8(self.slot)) {
             return 0;
         }
         4

@@ -2,18 +2,18 @@
 // What a line does is decided in `driver`, with exact contracts; here the lines are read, handed on, and answered.
 ghost use Prim.Native.Nat.{_<_};
 use cycle::state::OperatingState;
-use driver::calls;
-use driver::pieces::Partial;
-use driver::run::Run;
 use fdl::parameters::Parameters;
 use fdl::telegram::Telegram;
 use libc::STDIN_FILENO;
 use libc::STDOUT_FILENO;
-use lines::Call;
-use lines::Lent;
 use master::add::Addition;
 use master::unit::DpMaster;
 use peripheral_set::PeripheralHandle;
+use script_driver::calls;
+use script_driver::pieces::Partial;
+use script_driver::run::Run;
+use script_lines::Call;
+use script_lines::Lent;
 
 // What a line leaves, and where the next answer goes.
 struct Step {
@@ -41,7 +41,7 @@ fn kept(run: Run, at: usize) -> Step {
 
 // A line that is no call changes nothing.
 fn unknown(run: Run, out: &mut [u8], at: usize) -> Step {
-    let next = answer_lines::bare(out, at, b'?');
+    let next = script_answers::bare(out, at, b'?');
     Step { run: run, at: next }
 }
 
@@ -49,13 +49,13 @@ fn unknown(run: Run, out: &mut [u8], at: usize) -> Step {
 fn new(p: Parameters, out: &mut [u8], at: usize) -> Step {
     let made = Run::new(p);
     let run = made.run;
-    let next = answer_lines::numbered(out, at, b'N', wide(made.refusal));
+    let next = script_answers::numbered(out, at, b'N', wide(made.refusal));
     Step { run: run, at: next }
 }
 
 // L.
 fn lend(run: Run, lent: Lent, out: &mut [u8], at: usize) -> Step {
-    let next = answer_lines::bare(out, at, b'L');
+    let next = script_answers::bare(out, at, b'L');
     Step {
         run: run.lend(lent),
         at: next,
@@ -74,7 +74,7 @@ fn fill_pools(
     at: usize,
 ) -> Step {
     calls::fill_pools(b, setup, inputs, outputs, diags);
-    let next = answer_lines::bare(out, at, b'P');
+    let next = script_answers::bare(out, at, b'P');
     Step { run: run, at: next }
 }
 
@@ -88,7 +88,7 @@ fn fill_payload(
     at: usize,
 ) -> Step {
     calls::fill_payload(b, payload, list);
-    let next = answer_lines::bare(out, at, b'F');
+    let next = script_answers::bare(out, at, b'F');
     Step { run: run, at: next }
 }
 
@@ -106,14 +106,14 @@ fn add(
     at: usize,
 ) -> Step {
     let added = calls::add(run, addition, user, config, setup, inputs, outputs, diags);
-    let next = answer_lines::added(out, at, added.refusal, added.handle);
+    let next = script_answers::added(out, at, added.refusal, added.handle);
     done(run, added.master, next)
 }
 
 // S.
 fn state(run: Run, state: OperatingState, out: &mut [u8], at: usize) -> Step {
     let unit = run.unit;
-    let next = answer_lines::numbered(out, at, b'S', 0);
+    let next = script_answers::numbered(out, at, b'S', 0);
     done(run, unit.enter_state(state), next)
 }
 
@@ -130,7 +130,7 @@ fn turn(
 ) -> Step {
     let made = calls::turn(run, time, high_prio_only, setup, outputs, payload);
     let a = made.answer;
-    let next = answer_lines::turn(out, at, a, parts::part(payload, 0, a.len));
+    let next = script_answers::turn(out, at, a, parts::part(payload, 0, a.len));
     done(run, made.master, next)
 }
 
@@ -146,7 +146,7 @@ fn reply(
     at: usize,
 ) -> Step {
     let answered = calls::reply(run, address, telegram, payload, inputs, diags);
-    let next = answer_lines::reply(out, at, answered.answer);
+    let next = script_answers::reply(out, at, answered.answer);
     done(run, answered.master, next)
 }
 
@@ -154,7 +154,7 @@ fn reply(
 fn reset(run: Run, handle: PeripheralHandle, address: u8, out: &mut [u8], at: usize) -> Step {
     let unit = run.unit;
     let d = unit.reset_address(handle, address);
-    let next = answer_lines::numbered(out, at, b'X', wide(d.refusal));
+    let next = script_answers::numbered(out, at, b'X', wide(d.refusal));
     done(run, d.master, next)
 }
 
@@ -162,7 +162,7 @@ fn reset(run: Run, handle: PeripheralHandle, address: u8, out: &mut [u8], at: us
 fn wish(run: Run, handle: PeripheralHandle, out: &mut [u8], at: usize) -> Step {
     let unit = run.unit;
     let d = unit.request_diagnostics(handle);
-    let next = answer_lines::numbered(out, at, b'Q', wide(d.refusal));
+    let next = script_answers::numbered(out, at, b'Q', wide(d.refusal));
     done(run, d.master, next)
 }
 
@@ -176,7 +176,7 @@ fn write(
     at: usize,
 ) -> Step {
     let refusal = calls::write(run, handle, bytes, outputs);
-    let next = answer_lines::numbered(out, at, b'W', wide(refusal));
+    let next = script_answers::numbered(out, at, b'W', wide(refusal));
     kept(run, next)
 }
 
@@ -184,7 +184,7 @@ fn write(
 fn inputs(run: Run, handle: PeripheralHandle, inputs: &[u8], out: &mut [u8], at: usize) -> Step {
     let refusal = calls::inputs_refusal(run, handle, inputs);
     let part = calls::inputs(run, handle, inputs);
-    let next = answer_lines::image(out, at, b'I', refusal, part);
+    let next = script_answers::image(out, at, b'I', refusal, part);
     kept(run, next)
 }
 
@@ -192,7 +192,7 @@ fn inputs(run: Run, handle: PeripheralHandle, inputs: &[u8], out: &mut [u8], at:
 fn outputs(run: Run, handle: PeripheralHandle, outputs: &[u8], out: &mut [u8], at: usize) -> Step {
     let refusal = calls::outputs_refusal(run, handle, outputs);
     let part = calls::outputs(run, handle, outputs);
-    let next = answer_lines::image(out, at, b'O', refusal, part);
+    let next = script_answers::image(out, at, b'O', refusal, part);
     kept(run, next)
 }
 
@@ -200,7 +200,7 @@ fn outputs(run: Run, handle: PeripheralHandle, outputs: &[u8], out: &mut [u8], a
 fn diagnosis(run: Run, handle: PeripheralHandle, diags: &[u8], out: &mut [u8], at: usize) -> Step {
     let last = calls::diagnosis(run, handle, diags);
     let part = calls::extended(run, handle, diags);
-    let next = answer_lines::diagnosis(out, at, last.refusal, last.value, part);
+    let next = script_answers::diagnosis(out, at, last.refusal, last.value, part);
     kept(run, next)
 }
 
@@ -208,7 +208,7 @@ fn diagnosis(run: Run, handle: PeripheralHandle, diags: &[u8], out: &mut [u8], a
 fn listing(run: Run, list: &mut [u8], out: &mut [u8], at: usize) -> Step {
     let shown = calls::listing(run, list);
     let all = &list[..];
-    let next = answer_lines::listing(out, at, shown.refusal, parts::part(all, 0, shown.len), all);
+    let next = script_answers::listing(out, at, shown.refusal, parts::part(all, 0, shown.len), all);
     kept(run, next)
 }
 
@@ -223,14 +223,14 @@ fn dump(
     at: usize,
 ) -> Step {
     let unit = run.unit;
-    let sums = driver::arrays::sums(setup, inputs, outputs, diags);
-    let next = dump::line(out, at, unit, sums);
+    let sums = script_driver::arrays::sums(setup, inputs, outputs, diags);
+    let next = script_dump::line(out, at, unit, sums);
     Step { run: run, at: next }
 }
 
 // B.
 fn payload(run: Run, payload: &[u8], out: &mut [u8], at: usize) -> Step {
-    let next = answer_lines::numbered(out, at, b'B', fields::write::sum(payload));
+    let next = script_answers::numbered(out, at, b'B', script_fields::write::sum(payload));
     Step { run: run, at: next }
 }
 
@@ -381,8 +381,8 @@ fn line(
 ) -> Step {
     let mut a = [0u8; 255];
     let mut b = [0u8; 255];
-    let asked = lines::parse(s, &mut a, &mut b);
-    let call = driver::run::call_made(run.made, long, asked);
+    let asked = script_lines::parse(s, &mut a, &mut b);
+    let call = script_driver::run::call_made(run.made, long, asked);
     if let Call::New(p) = call {
         calls::clear(setup, inputs, outputs, diags, payload, list);
         return new(p, out, at);
@@ -443,7 +443,7 @@ fn piece(
     out: &mut [u8],
 ) -> Work {
     let unit = w.run;
-    let p = driver::pieces::append(w.line, part, text);
+    let p = script_driver::pieces::append(w.line, part, text);
     if !ended {
         return Work {
             run: unit,
@@ -493,7 +493,7 @@ fn lines_of(
     let mut work = w;
     let mut i = 0;
     while i < chunk.len() {
-        let end = driver::pieces::line_end(chunk, i);
+        let end = script_driver::pieces::line_end(chunk, i);
         work = piece(
             work,
             parts::part(chunk, i, end - i),
@@ -531,8 +531,8 @@ fn left(turns: u64, came: usize) -> u64
 
 // Writes what waits; an unfinished last line is no call.
 fn finish(p: Partial, out: &mut [u8], at: usize) {
-    if driver::pieces::unfinished(p) {
-        let end = answer_lines::bare(out, at, b'?');
+    if script_driver::pieces::unfinished(p) {
+        let end = script_answers::bare(out, at, b'?');
         flush(out, end);
         return;
     }

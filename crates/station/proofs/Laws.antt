@@ -10,7 +10,7 @@ use Rattle.station.specs.declared.reply.Heard.{Heard}
 use Rattle.station.specs.State.{stateOf}
 use Rattle.station.specs.Record.{counting, cycling, dueIs}
 use Rattle.parts.proofs.Laws.{by-test}
-use Rattle.telegrams.specs.Diagnosis.{flag}
+use Rattle.payloads.specs.Diagnosis.{flag}
 use Rattle.fdl.specs.Reply.{statusOf, hasData}
 use Rattle.fdl.specs.declared.telegram.ResponseStatus.{ResponseStatus}
 use Rattle.fdl.specs.declared.telegram.ResponseStatus.the-variants.{Ok, SapNotEnabled, DataLow, DataHigh, Other, Unusable}

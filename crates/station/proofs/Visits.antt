@@ -1,20 +1,19 @@
 -- What a visit changes and keeps, and which visits send what.
 -- The idea: a visit is one of three, and each state asks for one thing.
 use mathlib.Core.Path.{_≡_, refl, sym, ap, _∙_}
-use mathlib.Core.Bool.{Bool, true, false, not, _&&_}
+use mathlib.Core.Bool.{Bool, true, false, not, _&&_, cond}
 use Prim.Native.Nat.{ℕ, _+_, _≤_, _<_}
 use native.Mathlib.Omega.{arith}
 use lib.Dec.{ltb, leb, eqb}
 use borrow.Author.Tests.{ltb-true, ltb-false, lt-leb, le-leb, lt-ltb, le-ltb}
-use Rattle.parts.specs.Parts.{pick}
 use Rattle.parts.proofs.Laws.{by-test}
-use Rattle.telegrams.specs.declared.request.Request.{Request}
-use Rattle.telegrams.specs.declared.request.Request.the-variants.{Diagnosis, Parameters, Configuration, Data}
+use Rattle.payloads.specs.declared.request.Request.{Request}
+use Rattle.payloads.specs.declared.request.Request.the-variants.{Diagnosis, Parameters, Configuration, Data}
 use Rattle.station.specs.declared.record.Station.{Station}
 use Rattle.station.specs.declared.state.PeripheralState.{PeripheralState}
 use Rattle.station.specs.declared.state.PeripheralState.the-variants.{Offline, WaitForParam, WaitForConfig, ValidateConfig, PreDataExchange, DataExchange}
 use Rattle.station.specs.declared.visit.Visited.{Visited}
-use Rattle.station.specs.declared.visit.Visited.the-variants.{Sent, Fell, Skipped}
+use Rattle.station.specs.declared.visit.Visited.the-variants.{Sends, Drops, Skips}
 use Rattle.station.specs.State.{stateOf}
 use Rattle.station.specs.Record.{changed, oneMore}
 use Rattle.station.specs.Visit.{wishIn, wishOf, visitedOf}
@@ -23,16 +22,16 @@ use Rattle.station.specs.Reply.{awaitsData}
 -- a visit changes the state and the count, and nothing else
 pub visit-keeps : (w : Visited) (s : Station)
     → visitedOf w s ≡ changed s (visitedOf w s .state) (visitedOf w s .«retry_count») (s .fcb) (s .«diag_needed») (s .«diag_len») (s .diag)
-visit-keeps (Sent k) s = refl
-visit-keeps Fell s = refl
-visit-keeps Skipped s = refl
+visit-keeps (Sends k) s = refl
+visit-keeps Drops s = refl
+visit-keeps Skips s = refl
 
 -- ---- which visits do what
 
 abbrev pub falls : Visited → Bool
-falls (Sent k) = false
-falls Fell = true
-falls Skipped = false
+falls (Sends k) = false
+falls Drops = true
+falls Skips = false
 
 abbrev dataRequest : Request → Bool
 dataRequest Diagnosis = false
@@ -41,12 +40,12 @@ dataRequest Configuration = false
 dataRequest Data = true
 
 abbrev pub asksData : Visited → Bool
-asksData (Sent k) = dataRequest k
-asksData Fell = false
-asksData Skipped = false
+asksData (Sends k) = dataRequest k
+asksData Drops = false
+asksData Skips = false
 
 module _ (user config : Bool) (s : Station) where
-  due-stays : (b : Bool) → falls (pick b (Sent Diagnosis) (Sent Data)) ≡ false
+  due-stays : (b : Bool) → falls (cond b (Sends Diagnosis) (Sends Data)) ≡ false
   due-stays true = refl
   due-stays false = refl
 
@@ -58,7 +57,7 @@ module _ (user config : Bool) (s : Station) where
   wish-stays PreDataExchange = due-stays (s .«diag_needed»)
   wish-stays DataExchange = due-stays (s .«diag_needed»)
 
-  due-asks : (b : Bool) → asksData (pick b (Sent Diagnosis) (Sent Data)) ≡ not b
+  due-asks : (b : Bool) → asksData (cond b (Sends Diagnosis) (Sends Data)) ≡ not b
   due-asks true = refl
   due-asks false = refl
 

@@ -1,21 +1,20 @@
 -- The part of a balance's record that visits and replies change: as newly added, what each rule changes in it, and what is read off it.
 -- From 01, "The unit and its sizes" (adding, the last diagnosis) and "One visit and one reply" (count, bit, due).
 use Prim.Native.Nat.{ℕ, _+_}
-use mathlib.Core.Bool.{Bool, true, false}
+use mathlib.Core.Bool.{Bool, true, false, cond}
 use lib.Dec.{ltb}
-use Rattle.parts.specs.Parts.{pick}
 use Rattle.fdl.specs.Bits.{cycled, bitNumber, bitOf}
 use Rattle.fdl.specs.declared.telegram.FrameCountBit.the-variants.{First}
-use Rattle.telegrams.specs.declared.diagnosis.DiagnosticsInfo.{DiagnosticsInfo}
-use Rattle.telegrams.specs.Diagnosis.{noDiagnosis}
+use Rattle.payloads.specs.declared.diagnosis.DiagnosticsInfo.{DiagnosticsInfo}
+use Rattle.payloads.specs.Diagnosis.{noDiagnosis}
 use Rattle.station.specs.declared.record.Station.{Station}
 use Rattle.station.specs.declared.state.PeripheralState.{PeripheralState}
 use Rattle.station.specs.declared.state.PeripheralState.the-variants.{Offline, WaitForParam, WaitForConfig, ValidateConfig, PreDataExchange, DataExchange}
 use Rattle.station.specs.State.{numberOf, stateOf}
 
--- as newly added: Offline, count 0, the bit at First, no diagnosis held or due, stored length 0
-abbrev pub newOf : ℕ → Station
-newOf a =
+-- as newly added: Offline, count 0, the bit inState First, no diagnosis held or due, stored length 0
+abbrev pub newStation : ℕ → Station
+newStation a =
     record {
       address = a;
       state = numberOf Offline;
@@ -40,8 +39,8 @@ changed p state count bit due stored diag =
     }
 
 -- in another state
-abbrev pub at : PeripheralState → Station → Station
-at s p = changed p (numberOf s) (p .«retry_count») (p .fcb) (p .«diag_needed») (p .«diag_len») (p .diag)
+abbrev pub inState : PeripheralState → Station → Station
+inState s p = changed p (numberOf s) (p .«retry_count») (p .fcb) (p .«diag_needed») (p .«diag_len») (p .diag)
 
 -- with another count
 abbrev pub counting : ℕ → Station → Station
@@ -59,9 +58,9 @@ dueIs b p = changed p (p .state) (p .«retry_count») (p .fcb) b (p .«diag_len�
 abbrev pub holding : DiagnosticsInfo → ℕ → Station → Station
 holding d n p = changed p (p .state) (p .«retry_count») (p .fcb) (p .«diag_needed») n d
 
--- one more, which stays at 255
+-- one more, which stays inState 255
 abbrev pub oneMore : ℕ → ℕ
-oneMore n = pick (ltb n 255) (n + 1) 255
+oneMore n = cond (ltb n 255) (n + 1) 255
 
 -- ---- what the accessors read
 
@@ -89,11 +88,11 @@ isRunning p = runningState (stateOf (p .state))
 
 -- the diagnosis held, or none
 abbrev pub lastDiagnosis : Station → DiagnosticsInfo
-lastDiagnosis p = pick (p .diag .held) (p .diag) noDiagnosis
+lastDiagnosis p = cond (p .diag .held) (p .diag) noDiagnosis
 
 -- and how many bytes of it are stored
 abbrev pub storedPart : Station → ℕ
-storedPart p = pick (p .diag .held) (p .«diag_len») 0
+storedPart p = cond (p .diag .held) (p .«diag_len») 0
 
 -- with a diagnosis taken, of which so many bytes are stored: taking cycles the frame bit
 unfoldable pub tookOf : DiagnosticsInfo → ℕ → Station → Station

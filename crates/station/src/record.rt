@@ -1,10 +1,10 @@
 // The part of a peripheral's record that visits and replies change.
 ghost use mathlib.Core.Path.{_≡_};
 ghost use mathlib.Core.Bool.{true};
-ghost use Rattle.station.specs.Record.{newOf, dueIs, isLive, isRunning, lastDiagnosis, storedPart, tookOf};
+ghost use Rattle.station.specs.Record.{newStation, dueIs, isLive, isRunning, lastDiagnosis, storedPart, tookOf};
 use crate::state::PeripheralState;
 use fdl::telegram::FrameCountBit;
-use telegrams::diagnosis::DiagnosticsInfo;
+use payloads::diagnosis::DiagnosticsInfo;
 
 // State and frame bit are numbers, so that a record can be stored to field by field.
 #[repr(C)]
@@ -20,7 +20,7 @@ pub struct Station {
 
 impl Station {
     pub fn new(address: u8) -> Station
-        ensures { λ r. ⌜ r ≡ newOf address ⌝ }
+        ensures { λ r. ⌜ r ≡ newStation address ⌝ }
     {
         let diag = DiagnosticsInfo::none();
         Station {

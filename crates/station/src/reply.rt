@@ -2,7 +2,7 @@
 ghost use mathlib.Core.Path.{_≡_};
 ghost use mathlib.Core.Bool.{not, _&&_};
 ghost use Rattle.station.specs.State.{stateOf};
-ghost use Rattle.station.specs.Record.{at};
+ghost use Rattle.station.specs.Record.{inState};
 ghost use Rattle.station.specs.Reply.{hears, foundOf, acknowledgedOf, isShort, byFlags, validatedOf, diagnosedOf, exchangedOf, statusReply, dataReply, exchangeOf, heardOf, awaitsDiagnosis, awaitsData};
 use crate::record::Station;
 use crate::state::PeripheralEvent;
@@ -19,7 +19,7 @@ pub struct Heard {
 
 // A station in another state, with an event.
 fn moved(p: Station, state: PeripheralState, event: PeripheralEvent) -> Heard
-    ensures { λ r. ⌜ r ≡ hears event (at state p) ⌝ }
+    ensures { λ r. ⌜ r ≡ hears event (inState state p) ⌝ }
 {
     let mut q = p;
     q.state = state.number();
@@ -40,7 +40,7 @@ fn found(took: bool, q: Station, p: Station) -> Heard
     }
     Heard {
         station: p,
-        event: PeripheralEvent::Nothing,
+        event: PeripheralEvent::NoEvent,
     }
 }
 
@@ -53,7 +53,7 @@ fn acknowledged(p: Station, telegram: Telegram, next: PeripheralState) -> Heard
             let mut q = p;
             q.fcb = FrameCountBit::of(p.fcb).cycle().number();
             q.retry_count = 0;
-            moved(q, next, PeripheralEvent::Nothing)
+            moved(q, next, PeripheralEvent::NoEvent)
         }
         Telegram::Data {
             dsap: _,
@@ -61,15 +61,15 @@ fn acknowledged(p: Station, telegram: Telegram, next: PeripheralState) -> Heard
             status: _,
         } => Heard {
             station: p,
-            event: PeripheralEvent::Nothing,
+            event: PeripheralEvent::NoEvent,
         },
         Telegram::Token => Heard {
             station: p,
-            event: PeripheralEvent::Nothing,
+            event: PeripheralEvent::NoEvent,
         },
         Telegram::Request => Heard {
             station: p,
-            event: PeripheralEvent::Nothing,
+            event: PeripheralEvent::NoEvent,
         },
     }
 }
@@ -85,12 +85,12 @@ fn by_flags(flags: u16, p: Station) -> Heard
         return moved(p, PeripheralState::Offline, PeripheralEvent::ConfigError);
     }
     if flags / 0x0100 % 2 == 1 {
-        return moved(p, PeripheralState::WaitForParam, PeripheralEvent::Nothing);
+        return moved(p, PeripheralState::WaitForParam, PeripheralEvent::NoEvent);
     }
     if flags / 0x0002 % 2 == 1 {
         return Heard {
             station: p,
-            event: PeripheralEvent::Nothing,
+            event: PeripheralEvent::NoEvent,
         };
     }
     moved(
@@ -113,7 +113,7 @@ fn validated(took: bool, q: Station, p: Station) -> Heard
     s.retry_count = 0;
     Heard {
         station: s,
-        event: PeripheralEvent::Nothing,
+        event: PeripheralEvent::NoEvent,
     }
 }
 
@@ -132,7 +132,7 @@ fn diagnosed(took: bool, q: Station, p: Station) -> Heard
     }
     Heard {
         station: p,
-        event: PeripheralEvent::Nothing,
+        event: PeripheralEvent::NoEvent,
     }
 }
 
@@ -149,7 +149,7 @@ fn exchanged(fits: bool, p: Station) -> Heard
     }
     Heard {
         station: p,
-        event: PeripheralEvent::Nothing,
+        event: PeripheralEvent::NoEvent,
     }
 }
 
@@ -161,18 +161,18 @@ fn by_status(status: ResponseStatus, fits: bool, p: Station) -> Heard
         ResponseStatus::SapNotEnabled => moved(
             p,
             PeripheralState::ValidateConfig,
-            PeripheralEvent::Nothing,
+            PeripheralEvent::NoEvent,
         ),
         ResponseStatus::Ok => exchanged(fits, p),
         ResponseStatus::DataLow => exchanged(fits, p),
         ResponseStatus::DataHigh => exchanged(fits, p.request_diagnostics()),
         ResponseStatus::Other => Heard {
             station: p,
-            event: PeripheralEvent::Nothing,
+            event: PeripheralEvent::NoEvent,
         },
         ResponseStatus::Unusable => Heard {
             station: p,
-            event: PeripheralEvent::Nothing,
+            event: PeripheralEvent::NoEvent,
         },
     }
 }
@@ -190,11 +190,11 @@ fn data(telegram: Telegram, empty: bool, fits: bool, p: Station) -> Heard
         } => by_status(ResponseStatus::of(status), fits, p),
         Telegram::Token => Heard {
             station: p,
-            event: PeripheralEvent::Nothing,
+            event: PeripheralEvent::NoEvent,
         },
         Telegram::Request => Heard {
             station: p,
-            event: PeripheralEvent::Nothing,
+            event: PeripheralEvent::NoEvent,
         },
     }
 }

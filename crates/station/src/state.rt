@@ -13,7 +13,7 @@ pub enum PeripheralState {
 
 // What a visit or a reply reports.
 pub enum PeripheralEvent {
-    Nothing,
+    NoEvent,
     Online,
     Configured,
     ConfigError,
@@ -57,7 +57,7 @@ impl PeripheralEvent {
         ensures { λ r. ⌜ r ≡ eventNumber self ⌝ }
     {
         match self {
-            PeripheralEvent::Nothing => 0,
+            PeripheralEvent::NoEvent => 0,
             PeripheralEvent::Online => 1,
             PeripheralEvent::Configured => 2,
             PeripheralEvent::ConfigError => 3,

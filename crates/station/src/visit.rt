@@ -1,17 +1,17 @@
 // The visit that a turn makes: what it does, and the station afterwards.
 ghost use mathlib.Core.Path.{_≡_};
-ghost use Rattle.parts.specs.Parts.{pick};
+ghost use mathlib.Core.Bool.{cond};
 ghost use Rattle.station.specs.Record.{oneMore};
 ghost use Rattle.station.specs.Visit.{wishOf, visitedOf};
 use crate::record::Station;
 use crate::state::PeripheralState;
-use telegrams::request::Request;
+use payloads::request::Request;
 
 // What a visit does: sends a request, reports the station Offline, or nothing.
 pub enum Visited {
-    Sent(Request),
-    Fell,
-    Skipped,
+    Sends(Request),
+    Drops,
+    Skips,
 }
 
 // One more, which stays at 255.
@@ -23,7 +23,7 @@ fn one_more(count: u8) -> u8
 
 // The first where the test holds, else the second.
 fn either(test: bool, one: Visited, other: Visited) -> Visited
-    ensures { λ r. ⌜ r ≡ pick test one other ⌝ }
+    ensures { λ r. ⌜ r ≡ cond test one other ⌝ }
 {
     if test { one } else { other }
 }
@@ -34,22 +34,22 @@ impl Station {
         ensures { λ r. ⌜ r ≡ wishOf limit user config self ⌝ }
     {
         if limit < self.retry_count {
-            return Visited::Fell;
+            return Visited::Drops;
         }
         let state = PeripheralState::of(self.state);
-        let diagnosis = Visited::Sent(Request::Diagnosis);
-        let data = Visited::Sent(Request::Data);
+        let diagnosis = Visited::Sends(Request::Diagnosis);
+        let data = Visited::Sends(Request::Data);
         match state {
-            PeripheralState::Offline => either(self.retry_count == 0, diagnosis, Visited::Skipped),
+            PeripheralState::Offline => either(self.retry_count == 0, diagnosis, Visited::Skips),
             PeripheralState::WaitForParam => either(
                 user,
-                Visited::Sent(Request::Parameters),
-                Visited::Skipped,
+                Visited::Sends(Request::Parameters),
+                Visited::Skips,
             ),
             PeripheralState::WaitForConfig => either(
                 config,
-                Visited::Sent(Request::Configuration),
-                Visited::Skipped,
+                Visited::Sends(Request::Configuration),
+                Visited::Skips,
             ),
             PeripheralState::ValidateConfig => diagnosis,
             PeripheralState::PreDataExchange => either(self.diag_needed, diagnosis, data),
@@ -63,16 +63,16 @@ impl Station {
     {
         let mut s = self;
         match what {
-            Visited::Sent(_) => {
+            Visited::Sends(_) => {
                 s.retry_count = one_more(self.retry_count);
                 s
             }
-            Visited::Fell => {
+            Visited::Drops => {
                 s.state = 0;
                 s.retry_count = 0;
                 s
             }
-            Visited::Skipped => {
+            Visited::Skips => {
                 s.retry_count = 0;
                 s
             }

@@ -12,7 +12,7 @@ use lib.Dec.{eqb}
 use borrow.Author.Tests.{eqb-true, eqb-false, not-true}
 use Rattle.parts.proofs.Laws.{by-test}
 use Rattle.peripheral.specs.declared.record.Peripheral.{Peripheral}
-use Rattle.peripheral.specs.Record.{blank, newOf}
+use Rattle.peripheral.specs.Record.{blank, newBalance}
 use Rattle.peripheral_set.specs.Marks.{slots, firstEmpty}
 use Rattle.peripheral_set.proofs.Laws.{search-found}
 use Rattle.cycle.specs.declared.refusal.Lent.{Lent}
@@ -33,7 +33,7 @@ module _ (m : DpMaster) (a : Addition) (l : Lengths) (v : Valid m) where
   slot = firstEmpty (m .occupied)
 
   fresh : Peripheral
-  fresh = newOf (a .address) (optionsHeld (a .options) l) (rangesAt (m .used) l)
+  fresh = newBalance (a .address) (optionsHeld (a .options) l) (rangesAt (m .used) l)
 
   module _ (b : firstEmpty (m .occupied) < slots) (al : lengthRefusal l ≡ 0) where
     was-empty : getD (m .occupied) (firstEmpty (m .occupied)) false ≡ false

@@ -1,7 +1,7 @@
 -- Creation gives a valid unit, and entering a state, a wish and a reset keep it so.
 -- The idea: each of them replaces the state, or one balance by one with the same ranges.
 use mathlib.Core.Path.{_≡_, refl, sym, _∙_}
-use mathlib.Core.Bool.{Bool, true, false, false≢true}
+use mathlib.Core.Bool.{Bool, true, false, false≢true, cond}
 use mathlib.Core.Logic.{inl, inr, ⊎-elim}
 use Prim.Native.Nat.{ℕ, _≤_, _<_}
 use native.Mathlib.Omega.{arith}
@@ -9,12 +9,11 @@ use lib.ListN.{getD, set, replicate, length-replicate, getD-replicate, List·get
 use lib.Seq.{getD-set-same, getD-set-other}
 use lib.Dec.{eqb, ltb}
 use borrow.Author.Tests.{eqb-true, eqb-false, ltb-true, ltb-false, lt-ltb}
-use Rattle.parts.specs.Parts.{pick}
 use Rattle.parts.proofs.Laws.{by-test, and-left, and-right}
 use Rattle.fdl.specs.declared.parameters.Parameters.{Parameters}
-use Rattle.fdl.specs.Params.{inRange, held, lowest}
+use Rattle.fdl.specs.Params.{inRange, inForce, lowest}
 use Rattle.station.specs.State.{stateOf}
-use Rattle.station.specs.Record.{newOf, dueIs}
+use Rattle.station.specs.Record.{newStation, dueIs}
 use Rattle.peripheral.specs.declared.record.Peripheral.{Peripheral}
 use Rattle.peripheral.specs.Record.{blank, resetOf, stationIs}
 use Rattle.peripheral_set.specs.declared.PeripheralHandle.{PeripheralHandle}
@@ -28,7 +27,7 @@ use Rattle.cycle.proofs.Laws.{or-first, or-then}
 use Rattle.master.specs.declared.unit.DpMaster.{DpMaster}
 use Rattle.master.specs.Unit.{emptyUnit, createdOf, stateIs, balancesAre}
 use Rattle.master.specs.Handle.{resetRefusal, resetDone, wishDone}
-use Rattle.valid.specs.Valid.{Held, Standing, Valid, occupied}
+use Rattle.valid.specs.Valid.{InForce, Standing, Valid, occupied}
 use Rattle.valid.proofs.Stations.{sound-new, sound-due, fits-due}
 use Rattle.valid.proofs.Balances.{next-same, next-station, valid-on, valid-set, marked-below, standing-kept}
 
@@ -39,7 +38,7 @@ same-of n a i =
     by-test (ltb i n) (λ e. getD-replicate n i a a (ltb-true i n e))
     (λ e. List·getD-eq-default (replicate n a) a (simp length-replicate (ltb-false i n e)))
 
-valid-empty : (u : Parameters) → Held u → Valid (emptyUnit u)
+valid-empty : (u : Parameters) → InForce u → Valid (emptyUnit u)
 unfolding emptyUnit
 valid-empty u h =
     record {
@@ -55,18 +54,18 @@ valid-empty u h =
       standing = record { operating = omega arith; place = omega arith; times = omega arith; request = inl (record { slot = refl; kind = refl }) };
     }
 
-held-held : (u : Parameters) → inRange u ≡ true → Held (held u)
-unfolding inRange held
+held-held : (u : Parameters) → inRange u ≡ true → InForce (inForce u)
+unfolding inRange inForce
 held-held u r = record { range = r; first = λ e. rw e refl; second = λ e. rw e refl }
 
-lowest-held : Held lowest
+lowest-held : InForce lowest
 unfolding inRange lowest
 lowest-held = record { range = refl; first = λ e. refl; second = λ e. refl }
 
 -- a refused creation too
 pub created-valid : (u : Parameters) → Valid (createdOf u .master)
 unfolding createdOf
-created-valid u = by-test (inRange u) (λ r. rw r (valid-empty (held u) (held-held u r))) (λ r. rw r (valid-empty lowest lowest-held))
+created-valid u = by-test (inRange u) (λ r. rw r (valid-empty (inForce u) (held-held u r))) (λ r. rw r (valid-empty lowest lowest-held))
 
 -- ---- entering a state
 
@@ -89,7 +88,7 @@ enter-valid m o v =
 -- ---- a handle that is not refused
 
 module _ (m : DpMaster) (h : PeripheralHandle) where
-  is-there : (b : Bool) → _≡_ {A = ℕ} (pick b 0 4) 0 → b ≡ true
+  is-there : (b : Bool) → _≡_ {A = ℕ} (cond b 0 4) 0 → b ≡ true
   is-there true e = refl
   is-there false e = absurd (omega arith)
 
@@ -131,7 +130,7 @@ wish-valid m h v =
 
 -- b: the open request is that slot's, and is closed; otherwise it is another's, and stays
 reset-standing : (m : DpMaster) (k : ℕ) (q : Peripheral) (b : Bool) → eqb (m .state .«open_slot») k ≡ b → Standing m
-    → let s = m .state in Standing (stateIs (pick b (placed (s .slot) (s .completed) 0 0 s) s) (balancesAre (set (m .peripherals) k q) m))
+    → let s = m .state in Standing (stateIs (cond b (placed (s .slot) (s .completed) 0 0 s) s) (balancesAre (set (m .peripherals) k q) m))
 reset-standing m k q true e g = record { operating = g .operating; place = g .place; times = g .times; request = inl (record { slot = refl; kind = refl }) }
 reset-standing m k q false e g =
     let t = m .state .«open_slot» in
@@ -142,7 +141,7 @@ reset-changed : (m : DpMaster) (k address : ℕ) → Valid m → occupied m k �
 reset-changed m k address v o a =
     let p = getD (m .peripherals) k blank in
     valid-set m v k (resetOf p address) (closedFor k (m .state))
-    (next-station (m .parameters) (getD (m .occupied) k false) p (newOf address) o (λ b. a) (λ g. sound-new address (m .parameters .«max_retry_limit») (p .ranges .«diag_room»)))
+    (next-station (m .parameters) (getD (m .occupied) k false) p (newStation address) o (λ b. a) (λ g. sound-new address (m .parameters .«max_retry_limit») (p .ranges .«diag_room»)))
     (reset-standing m k (resetOf p address) (eqb (m .state .«open_slot») k) refl (v .standing))
 
 pub reset-valid : (m : DpMaster) (h : PeripheralHandle) (address : ℕ) → Valid m → Valid (resetDone m h address .master)

@@ -13,7 +13,7 @@ use Rattle.parts.specs.Parts.{roomFor}
 use Rattle.parts.proofs.Laws.{by-test, room-new}
 use Rattle.fdl.specs.Reply.{usableReply}
 use Rattle.fdl.specs.declared.telegram.Telegram.{Telegram}
-use Rattle.telegrams.specs.Diagnosis.{taken, diagnosisOf, extended}
+use Rattle.payloads.specs.Diagnosis.{taken, diagnosisOf, extended}
 use Rattle.station.specs.Record.{tookOf}
 use Rattle.peripheral.specs.declared.record.Peripheral.{Peripheral}
 use Rattle.peripheral.specs.Record.{blank}

@@ -14,17 +14,17 @@ use Rattle.fdl.specs.declared.telegram.ResponseStatus.{ResponseStatus}
 use Rattle.fdl.specs.declared.telegram.ResponseStatus.the-variants.{Ok, SapNotEnabled, DataLow, DataHigh, Other, Unusable}
 use Rattle.fdl.specs.declared.telegram.Telegram.{Telegram}
 use Rattle.fdl.specs.declared.telegram.Telegram.the-variants.{ShortConfirmation, Data, Token, Request}
-use Rattle.telegrams.specs.declared.request.Request.the-variants.{Diagnosis, Data as DataRequest}
-use Rattle.telegrams.specs.Request.{kindNumber}
-use Rattle.telegrams.specs.Diagnosis.{flag}
-use Rattle.telegrams.specs.declared.diagnosis.DiagnosticsInfo.{DiagnosticsInfo}
+use Rattle.payloads.specs.declared.request.Request.the-variants.{Diagnosis, Data as DataRequest}
+use Rattle.payloads.specs.Request.{kindNumber}
+use Rattle.payloads.specs.Diagnosis.{flag}
+use Rattle.payloads.specs.declared.diagnosis.DiagnosticsInfo.{DiagnosticsInfo}
 use Rattle.station.specs.declared.record.Station.{Station}
 use Rattle.station.specs.declared.state.PeripheralState.{PeripheralState}
 use Rattle.station.specs.declared.state.PeripheralState.the-variants.{Offline, WaitForParam, WaitForConfig, ValidateConfig, PreDataExchange, DataExchange}
 use Rattle.station.specs.declared.visit.Visited.{Visited}
-use Rattle.station.specs.declared.visit.Visited.the-variants.{Sent, Fell, Skipped}
+use Rattle.station.specs.declared.visit.Visited.the-variants.{Sends, Drops, Skips}
 use Rattle.station.specs.State.{numberOf, stateOf}
-use Rattle.station.specs.Record.{newOf, at, counting, cycling, dueIs, oneMore, tookOf}
+use Rattle.station.specs.Record.{newStation, inState, counting, cycling, dueIs, oneMore, tookOf}
 use Rattle.station.specs.Visit.{wishIn, wishOf, visitedOf}
 use Rattle.station.specs.Reply.{foundOf, acknowledgedOf, isShort, byFlags, validatedOf, diagnosedOf, exchangedOf, statusReply, dataReply, exchangeOf, heardIn, heardOf}
 use Rattle.station.proofs.Visits.{falls, wish-falls}
@@ -54,7 +54,7 @@ bit-cycles n l h =
 -- ---- what each change keeps
 
 module _ {limit room : ℕ} {s : Station} (g : Sound limit room s) where
-  pub sound-at : (x : PeripheralState) → Sound limit room (at x s)
+  pub sound-at : (x : PeripheralState) → Sound limit room (inState x s)
   sound-at x = record { state = state-number x; bitLow = g .bitLow; bitHigh = g .bitHigh; count = g .count; stored = g .stored; unheld = g .unheld }
 
   sound-count : (n : ℕ) → n ≤ limit + 1 → Sound limit room (counting n s)
@@ -78,7 +78,7 @@ module _ {limit room : ℕ} {s : Station} (g : Sound limit room s) where
       record { state = g .state; bitLow = b .0; bitHigh = b .1; count = g .count; stored = h; unheld = λ f. absurd (false≢true (sym f ∙ e)) }
 
 -- as newly added
-pub sound-new : (address limit room : ℕ) → Sound limit room (newOf address)
+pub sound-new : (address limit room : ℕ) → Sound limit room (newStation address)
 sound-new address limit room = record { state = omega arith; bitLow = omega arith; bitHigh = omega arith; count = omega arith; stored = omega arith; unheld = λ e. refl }
 
 -- ---- a visit
@@ -88,9 +88,9 @@ module _ {limit room : ℕ} {s : Station} (g : Sound limit room s) where
   one-more-fits h = by-test (ltb (s .«retry_count») 255) (λ e. rw e (omega arith)) (λ e. rw e (omega (arith, ltb-false (s .«retry_count») 255 e)))
 
   sound-visited : (w : Visited) → (falls w ≡ false → s .«retry_count» ≤ limit) → Sound limit room (visitedOf w s)
-  sound-visited (Sent k) h = sound-count g (oneMore (s .«retry_count»)) (one-more-fits (h refl))
-  sound-visited Fell h = sound-at (sound-zero g) Offline
-  sound-visited Skipped h = sound-zero g
+  sound-visited (Sends k) h = sound-count g (oneMore (s .«retry_count»)) (one-more-fits (h refl))
+  sound-visited Drops h = sound-at (sound-zero g) Offline
+  sound-visited Skips h = sound-zero g
 
   pub sound-visit : (user config : Bool) → Sound limit room (visitedOf (wishOf limit user config s) s)
   sound-visit user config = sound-visited (wishOf limit user config s) (λ f. ltb-false limit (s .«retry_count») (sym (wish-falls user config s limit) ∙ f))
@@ -99,9 +99,9 @@ module _ {limit room : ℕ} {s : Station} (g : Sound limit room s) where
 
 -- what is sent fits the state
 abbrev pub sendsFit : PeripheralState → Bool → Visited → Bool
-sendsFit x due (Sent k) = fits x due (kindNumber k)
-sendsFit x due Fell = true
-sendsFit x due Skipped = true
+sendsFit x due (Sends k) = fits x due (kindNumber k)
+sendsFit x due Drops = true
+sendsFit x due Skips = true
 
 module _ (user config : Bool) (s : Station) where
   wish-fits-in : (x : PeripheralState) → T (sendsFit x (s .«diag_needed») (wishIn x user config s))
@@ -135,7 +135,7 @@ module _ (k : ℕ) (due : Bool) where
   or-kind : T (eqb k 4 || (eqb k 1 && due)) → (1 ≤ k) × (k ≤ 4)
   or-kind h =
       by-test (eqb k 4) (λ e. omega (arith, eqb-true k 4 e))
-      (λ e. by-test (eqb k 1) (λ f. omega (arith, eqb-true k 1 f)) (λ f. absurd (rw (e, f) at h)))
+      (λ e. by-test (eqb k 1) (λ f. omega (arith, eqb-true k 1 f)) (λ f. absurd (rw (e, f) inState h)))
 
   pub kind-among : (x : PeripheralState) → T (fits x due k) → (1 ≤ k) × (k ≤ 4)
   kind-among Offline h = omega (arith, eqb→eq k 1 h)
@@ -149,7 +149,7 @@ module _ (k : ℕ) (due : Bool) where
 
 -- what each change that a reply can make keeps
 pub record Steady (P : Station → Type 0) : Type 0 where
-  pub at-ok : (x : PeripheralState) (s : Station) → P s → P (at x s)
+  pub at-ok : (x : PeripheralState) (s : Station) → P s → P (inState x s)
   pub zero-ok : (s : Station) → P s → P (counting 0 s)
   pub cycling-ok : (s : Station) → P s → P (cycling s)
   pub due-ok : (b : Bool) (s : Station) → P s → P (dueIs b s)

@@ -12,10 +12,10 @@ use lib.Dec.{T, eqb, leb}
 use borrow.Author.Tests.{eqb-true, leb-true}
 use Rattle.parts.proofs.Laws.{by-test}
 use Rattle.fdl.specs.declared.parameters.Parameters.{Parameters}
-use Rattle.telegrams.specs.Request.{kindNumber}
+use Rattle.payloads.specs.Request.{kindNumber}
 use Rattle.station.specs.declared.record.Station.{Station}
 use Rattle.station.specs.declared.visit.Visited.{Visited}
-use Rattle.station.specs.declared.visit.Visited.the-variants.{Sent as Sends, Fell, Skipped}
+use Rattle.station.specs.declared.visit.Visited.the-variants.{Sends, Drops, Skips}
 use Rattle.station.specs.State.{stateOf}
 use Rattle.station.specs.Visit.{visitedOf}
 use Rattle.station.proofs.Visits.{visit-keeps}
@@ -25,9 +25,9 @@ use Rattle.peripheral.specs.Visit.{wishesOf, visitedBy}
 use Rattle.peripheral_set.specs.Marks.{slots}
 use Rattle.cycle.specs.declared.seen.Seen.{Seen}
 use Rattle.cycle.specs.declared.seen.Sent.{Sent}
-use Rattle.cycle.specs.declared.seen.Sent.the-variants.{Nothing, To}
+use Rattle.cycle.specs.declared.seen.Sent.the-variants.{Nobody, To}
 use Rattle.cycle.specs.declared.state.Step.{Step}
-use Rattle.cycle.specs.declared.state.Step.the-variants.{Stop, Control, Back, Visits}
+use Rattle.cycle.specs.declared.state.Step.the-variants.{Halt, Control, Back, Visits}
 use Rattle.cycle.specs.Seen.{nothingSeen, seenBy, idle}
 use Rattle.cycle.specs.State.{afterTurn, startOf}
 use Rattle.cycle.specs.Refusal.{turnRefusal}
@@ -51,20 +51,20 @@ visited-next u there p o =
 
 -- what was sent went to an occupied slot, and fits its balance
 abbrev SentTo : List Bool → List Peripheral → Sent → Type 0
-SentTo marks ps Nothing = _≡_ {A = ℕ} 0 0
+SentTo marks ps Nobody = _≡_ {A = ℕ} 0 0
 SentTo marks ps (To slot k) = (getD marks slot false ≡ true) × Fits (getD ps slot blank .station) (kindNumber k)
 
 module _ (marks : List Bool) where
   idle-sent : (ps : List Peripheral) (sent : Sent) → idle sent ≡ true → SentTo marks ps sent
-  idle-sent ps Nothing e = refl
+  idle-sent ps Nobody e = refl
   idle-sent ps (To slot k) e = absurd (false≢true e)
 
   visit-sent : (w : Visited) (i : ℕ) (seen : Seen) (ps : List Peripheral) → let p = getD ps i blank in
       getD marks i false ≡ true → i < length ps → idle (seen .sent) ≡ true → T (sendsFit (stateOf (p .station .state)) (p .station .«diag_needed») w)
       → SentTo marks (set ps i (stationIs (visitedOf w (p .station)) p)) (seenBy i w seen .sent)
   visit-sent (Sends k) i seen ps o h e f = (o, rw (getD-set-same ps i (stationIs (visitedOf (Sends k) (getD ps i blank .station)) (getD ps i blank)) blank h) f)
-  visit-sent Fell i seen ps o h e f = idle-sent _ (seen .sent) e
-  visit-sent Skipped i seen ps o h e f = idle-sent _ (seen .sent) e
+  visit-sent Drops i seen ps o h e f = idle-sent _ (seen .sent) e
+  visit-sent Skips i seen ps o h e f = idle-sent _ (seen .sent) e
 
 -- what all visits leave
 record Went (u : Parameters) (marks : List Bool) (ps : List Peripheral) (w : Swept) : Type 0 where
@@ -102,10 +102,10 @@ module _ (u : Parameters) (marks : List Bool) where
 
 module _ (m : DpMaster) (v : Valid m) (time : ℕ) (l : m .state .«last_turn» ≤ time) where
   standing-after : (step : Step) (sent : Sent) (ps : List Peripheral) → SentTo (m .occupied) ps sent → Standing (stateIs (afterTurn step sent time (m .state)) (balancesAre ps m))
-  standing-after Stop sent ps h = record { operating = v .standing .operating; place = v .standing .place; times = omega (arith, v .standing .times); request = inl (record { slot = refl; kind = refl }) }
+  standing-after Halt sent ps h = record { operating = v .standing .operating; place = v .standing .place; times = omega (arith, v .standing .times); request = inl (record { slot = refl; kind = refl }) }
   standing-after Control sent ps h = record { operating = v .standing .operating; place = v .standing .place; times = omega arith; request = inl (record { slot = refl; kind = refl }) }
   standing-after Back sent ps h = record { operating = v .standing .operating; place = omega arith; times = omega (arith, v .standing .times); request = inl (record { slot = refl; kind = refl }) }
-  standing-after Visits Nothing ps h = record { operating = v .standing .operating; place = omega arith; times = omega (arith, v .standing .times); request = inl (record { slot = refl; kind = refl }) }
+  standing-after Visits Nobody ps h = record { operating = v .standing .operating; place = omega arith; times = omega (arith, v .standing .times); request = inl (record { slot = refl; kind = refl }) }
   standing-after Visits (To slot k) ps h =
       record {
         operating = v .standing .operating;

@@ -9,8 +9,8 @@ use lib.ListN.{length, getD}
 use lib.Dec.{T, eqb}
 use Rattle.fdl.specs.declared.parameters.Parameters.{Parameters}
 use Rattle.fdl.specs.Params.{inRange}
-use Rattle.telegrams.specs.declared.request.Request.the-variants.{Diagnosis, Parameters as ParameterRequest, Configuration, Data}
-use Rattle.telegrams.specs.Request.{kindNumber}
+use Rattle.payloads.specs.declared.request.Request.the-variants.{Diagnosis, Parameters as ParameterRequest, Configuration, Data}
+use Rattle.payloads.specs.Request.{kindNumber}
 use Rattle.station.specs.declared.record.Station.{Station}
 use Rattle.station.specs.declared.state.PeripheralState.{PeripheralState}
 use Rattle.station.specs.declared.state.PeripheralState.the-variants.{Offline, WaitForParam, WaitForConfig, ValidateConfig, PreDataExchange, DataExchange}
@@ -24,7 +24,7 @@ use Rattle.cycle.specs.Refusal.{addressRefusal}
 use Rattle.master.specs.declared.unit.DpMaster.{DpMaster}
 
 -- the parameters: within their ranges, and with the watchdog off its factors are 0
-pub record Held (u : Parameters) : Type 0 where
+pub record InForce (u : Parameters) : Type 0 where
   pub range : inRange u ≡ true
   pub first : u .watchdog ≡ false → u .«watchdog_first» ≡ 0
   pub second : u .watchdog ≡ false → u .«watchdog_second» ≡ 0
@@ -113,7 +113,7 @@ pub record Standing (m : DpMaster) : Type 0 where
 -- ---- the unit
 
 pub record Valid (m : DpMaster) : Type 0 where
-  pub parameters : Held (m .parameters)
+  pub parameters : InForce (m .parameters)
   pub marks : length (m .occupied) ≡ slots
   pub table : length (m .peripherals) ≡ slots
   pub within : Within (m .parameters) (m .used)

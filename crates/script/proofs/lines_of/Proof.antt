@@ -3,7 +3,7 @@ use mathlib.Core.Path.{_≡_, _∙_}
 use Prim.Native.Nat.{_-_}
 use native.Mathlib.Omega.{arith}
 use lib.ListN.{length}
-use Rattle.driver.proofs.Laws.{newline-from, newline-to}
+use Rattle.script_driver.proofs.Laws.{newline-from, newline-to}
 use Rattle.script.proofs.lines_of.Statement.{statement}
 use Rattle.script.proofs.lines_of.Tie as tie
 

@@ -15,11 +15,11 @@ returns c = rw (← c .before .pooled-refusal .ensures, ne-eqb _ _ (c .if1 .take
 find-requires : tie.Need-find-requires
 find-requires c κs = search needs
 
-place-requires : tie.Need-place-requires
-place-requires c κs = search needs
+widen16-requires : tie.Need-widen16-requires
+widen16-requires c κs = search needs
 
-size-requires : tie.Need-size-requires
-size-requires c κs = search needs
+widen8-requires : tie.Need-widen8-requires
+widen8-requires c κs = search needs
 
 inside-requires : tie.Need-inside-requires
 inside-requires c κs = search needs
@@ -28,13 +28,13 @@ returns-2 : tie.Need-returns-2
 returns-2 c =
     let f = c .before .before .before .before .before in
     rw (← f .before .before .pooled-refusal .ensures, f .before .if1 .left)
-    (range-in _ _ (f .before .before .before .before .args .outputs .now) _ _ (rw (f .find .ensures) at (c .before .before .before .place .ensures .0)) (rw (f .find .ensures) at (c .before .before .size .ensures .0)) _ (c .before .inside .ensures) (c .if2 .taken))
+    (range-in _ _ (f .before .before .before .before .args .outputs .now) _ _ (rw (f .find .ensures) at (c .before .before .before .widen16 .ensures .0)) (rw (f .find .ensures) at (c .before .before .widen8 .ensures .0)) _ (c .before .inside .ensures) (c .if2 .taken))
 
 returns-3 : tie.Need-returns-3
 returns-3 c =
     let f = c .before .before .before .before .before in
     rw (← f .before .before .pooled-refusal .ensures, f .before .if1 .left)
-    (range-out _ _ (f .before .before .before .before .args .outputs .now) _ _ (rw (f .find .ensures) at (c .before .before .before .place .ensures .0)) (rw (f .find .ensures) at (c .before .before .size .ensures .0)) _ (c .before .inside .ensures) (c .if2 .left))
+    (range-out _ _ (f .before .before .before .before .args .outputs .now) _ _ (rw (f .find .ensures) at (c .before .before .before .widen16 .ensures .0)) (rw (f .find .ensures) at (c .before .before .widen8 .ensures .0)) _ (c .before .inside .ensures) (c .if2 .left))
 
 pub pi-q-range-spec : {M : Type 1} → statement M
 pi-q-range-spec =
@@ -43,8 +43,8 @@ pi-q-range-spec =
     pooled-refusal-requires
     returns
     find-requires
-    place-requires
-    size-requires
+    widen16-requires
+    widen8-requires
     inside-requires
     returns-2
     returns-3)

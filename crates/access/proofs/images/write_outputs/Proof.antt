@@ -14,15 +14,15 @@ returns c =
 find-requires : tie.Need-find-requires
 find-requires c κs = search needs
 
-size-requires : tie.Need-size-requires
-size-requires c κs = search needs
+widen8-requires : tie.Need-widen8-requires
+widen8-requires c κs = search needs
 
 returns-2 : tie.Need-returns-2
 returns-2 c =
-    let a = c .before .before .before .before .before .before .before .before .args in write-other (a .m) (a .handle) (a .bytes .now) (a .outputs .now) (c .before .before .before .before .before .pooled-refusal .result) (c .before .before .before .before .before .pooled-refusal .ensures) (c .before .before .before .before .if1 .left) (rw (c .before .size .ensures .0, c .before .before .before .find .ensures) at (c .if2 .taken))
+    let a = c .before .before .before .before .before .before .before .before .args in write-other (a .m) (a .handle) (a .bytes .now) (a .outputs .now) (c .before .before .before .before .before .pooled-refusal .result) (c .before .before .before .before .before .pooled-refusal .ensures) (c .before .before .before .before .if1 .left) (rw (c .before .widen8 .ensures .0, c .before .before .before .find .ensures) at (c .if2 .taken))
 
-place-requires : tie.Need-place-requires
-place-requires c κs = search needs
+widen16-requires : tie.Need-widen16-requires
+widen16-requires c κs = search needs
 
 copy-at-requires : tie.Need-copy-at-requires
 copy-at-requires c κs = search needs
@@ -32,7 +32,7 @@ same-length c = search needs
 
 returns-3 : tie.Need-returns-3
 returns-3 c =
-    let a = c .before .before .before .before .before .before .before .before .before .before .before .before .before .args in write-done (a .m) (a .handle) (a .bytes .now) (a .outputs .now) (c .before .before .before .before .before .before .before .before .before .before .pooled-refusal .result) _ (c .before .before .before .before .before .before .before .before .before .before .pooled-refusal .ensures) (c .before .before .before .before .before .before .before .before .before .if1 .left) (rw (c .before .before .before .before .before .before .size .ensures .0, c .before .before .before .before .before .before .before .before .find .ensures) at (c .before .before .before .before .before .if2 .left)) (rw (c .before .before .before .place .ensures .0, c .before .before .before .before .before .before .size .ensures .0, c .before .before .before .before .before .before .before .before .find .ensures) at (c .before .before .copy-at .ensures .bytes))
+    let a = c .before .before .before .before .before .before .before .before .before .before .before .before .before .args in write-done (a .m) (a .handle) (a .bytes .now) (a .outputs .now) (c .before .before .before .before .before .before .before .before .before .before .pooled-refusal .result) _ (c .before .before .before .before .before .before .before .before .before .before .pooled-refusal .ensures) (c .before .before .before .before .before .before .before .before .before .if1 .left) (rw (c .before .before .before .before .before .before .widen8 .ensures .0, c .before .before .before .before .before .before .before .before .find .ensures) at (c .before .before .before .before .before .if2 .left)) (rw (c .before .before .before .widen16 .ensures .0, c .before .before .before .before .before .before .widen8 .ensures .0, c .before .before .before .before .before .before .before .before .find .ensures) at (c .before .before .copy-at .ensures .bytes))
 
 pub write-outputs-spec : {M : Type 1} → statement M
 write-outputs-spec =
@@ -41,9 +41,9 @@ write-outputs-spec =
     pooled-refusal-requires
     returns
     find-requires
-    size-requires
+    widen8-requires
     returns-2
-    place-requires
+    widen16-requires
     copy-at-requires
     same-length
     returns-3)

@@ -6,38 +6,38 @@ use borrow.Author.Needs.{needs}
 use Rattle.cycle.proofs.refusal.turn_refusal.Statement.{statement}
 use Rattle.cycle.proofs.refusal.turn_refusal.Tie as tie
 
-place-requires : tie.Need-place-requires
-place-requires c κs = search needs
+widen16-requires : tie.Need-widen16-requires
+widen16-requires c κs = search needs
 
 returns : tie.Need-returns
 unfolding turnRefusal
 returns c =
-    simp (ne-eqb _ _ (λ e. c .if1 .taken (e ∙ sym (c .before .place .ensures .0))))
+    simp (ne-eqb _ _ (λ e. c .if1 .taken (e ∙ sym (c .before .widen16 .ensures .0))))
 
-place-requires-2 : tie.Need-place-requires-2
-place-requires-2 c κs = search needs
+widen16-requires-2 : tie.Need-widen16-requires-2
+widen16-requires-2 c κs = search needs
 
 returns-2 : tie.Need-returns-2
 unfolding turnRefusal
 returns-2 c =
-    simp (eq-eqb _ _ (c .before .before .if1 .left ∙ c .before .before .before .place .ensures .0), ne-eqb _ _ (λ e. c .if2 .taken (e ∙ sym (c .before .place2 .ensures .0))))
+    simp (eq-eqb _ _ (c .before .before .if1 .left ∙ c .before .before .before .widen16 .ensures .0), ne-eqb _ _ (λ e. c .if2 .taken (e ∙ sym (c .before .widen162 .ensures .0))))
 
 returns-3 : tie.Need-returns-3
 unfolding turnRefusal
 returns-3 c =
-    simp (eq-eqb _ _ (c .before .before .before .if1 .left ∙ c .before .before .before .before .place .ensures .0), eq-eqb _ _ (c .before .if2 .left ∙ c .before .before .place2 .ensures .0), lt-leb _ _ (c .if3 .taken))
+    simp (eq-eqb _ _ (c .before .before .before .if1 .left ∙ c .before .before .before .before .widen16 .ensures .0), eq-eqb _ _ (c .before .if2 .left ∙ c .before .before .widen162 .ensures .0), lt-leb _ _ (c .if3 .taken))
 
 returns-4 : tie.Need-returns-4
 unfolding turnRefusal
 returns-4 c =
-    simp (eq-eqb _ _ (c .before .before .before .before .before .if1 .left ∙ c .before .before .before .before .before .before .place .ensures .0), eq-eqb _ _ (c .before .before .before .if2 .left ∙ c .before .before .before .before .place2 .ensures .0), le-leb _ _ (c .before .before .if3 .left), lt-leb _ _ (c .if4 .taken))
+    simp (eq-eqb _ _ (c .before .before .before .before .before .if1 .left ∙ c .before .before .before .before .before .before .widen16 .ensures .0), eq-eqb _ _ (c .before .before .before .if2 .left ∙ c .before .before .before .before .widen162 .ensures .0), le-leb _ _ (c .before .before .if3 .left), lt-leb _ _ (c .if4 .taken))
 
 returns-5 : tie.Need-returns-5
 unfolding turnRefusal
 returns-5 c =
-    simp (eq-eqb _ _ (c .before .before .before .before .before .if1 .left ∙ c .before .before .before .before .before .before .place .ensures .0), eq-eqb _ _ (c .before .before .before .if2 .left ∙ c .before .before .before .before .place2 .ensures .0), le-leb _ _ (c .before .before .if3 .left), le-leb _ _ (c .if4 .left))
+    simp (eq-eqb _ _ (c .before .before .before .before .before .if1 .left ∙ c .before .before .before .before .before .before .widen16 .ensures .0), eq-eqb _ _ (c .before .before .before .if2 .left ∙ c .before .before .before .before .widen162 .ensures .0), le-leb _ _ (c .before .before .if3 .left), le-leb _ _ (c .if4 .left))
 
 pub turn-refusal-spec : {M : Type 1} → statement M
 turn-refusal-spec =
     tie.close
-    (tie.spec place-requires returns place-requires-2 returns-2 returns-3 returns-4 returns-5)
+    (tie.spec widen16-requires returns widen16-requires-2 returns-2 returns-3 returns-4 returns-5)

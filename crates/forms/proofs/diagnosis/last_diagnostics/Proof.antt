@@ -42,14 +42,14 @@ use denote.Triple.Table.{entered, cited}
 use denote.Triple.Walked.{says, Stays, stay-none, stay-none-slice, walkOf, goes-none, goes-none-slice, Walks, ends-at, walked, walk-meets}
 use denote.Exit.{yes}
 use Rattle.parts.specs.Parts.{Itself}
-use Rattle.telegrams.specs.declared.diagnosis.DiagnosticsInfo.{DiagnosticsInfo}
+use Rattle.payloads.specs.declared.diagnosis.DiagnosticsInfo.{DiagnosticsInfo}
 use Rattle.peripheral_set.specs.declared.PeripheralHandle.{PeripheralHandle}
 use Rattle.master.specs.declared.unit.DpMaster.{DpMaster}
 use Rattle.access.specs.declared.diagnosis.LastDiagnosis.{LastDiagnosis}
 use Rattle.access.specs.Lookup.{foundIn, diagNumber, extendedSeen, lastOf}
 use Rattle.forms.specs.declared.diagnosis.PeripheralDiagnostics.{PeripheralDiagnostics}
-use Rattle.telegrams.proofs.diagnosis.DiagnosticsInfo as I
-use Rattle.telegrams.proofs.diagnosis.DiagnosticsInfo.Laws as I′
+use Rattle.payloads.proofs.diagnosis.DiagnosticsInfo as I
+use Rattle.payloads.proofs.diagnosis.DiagnosticsInfo.Laws as I′
 use Rattle.peripheral_set.proofs.PeripheralHandle as P
 use Rattle.peripheral_set.proofs.PeripheralHandle.Laws as P′
 use Rattle.master.proofs.unit.DpMaster as S

@@ -3,8 +3,8 @@ use borrow.Author.Needs.{needs}
 use Rattle.master.proofs.add.store_setup.Statement.{statement}
 use Rattle.master.proofs.add.store_setup.Tie as tie
 
-place-requires : tie.Need-place-requires
-place-requires c κs = search needs
+widen16-requires : tie.Need-widen16-requires
+widen16-requires c κs = search needs
 
 copy-at-requires : tie.Need-copy-at-requires
 copy-at-requires c κs = search needs
@@ -20,9 +20,9 @@ same-length c = search needs
 
 returns : tie.Need-returns
 returns c =
-    rw (c .before .before .before .before .before .before .copy-at .ensures .bytes, c .before .before .before .before .before .before .before .before .place .ensures .0) at (c .before .before .copy-at2 .ensures .bytes)
+    rw (c .before .before .before .before .before .before .copy-at .ensures .bytes, c .before .before .before .before .before .before .before .before .widen16 .ensures .0) at (c .before .before .copy-at2 .ensures .bytes)
 
 pub store-setup-spec : {M : Type 1} → statement M
 store-setup-spec =
     tie.close
-    (tie.spec place-requires copy-at-requires add-copy-at copy-at-requires-2 same-length returns)
+    (tie.spec widen16-requires copy-at-requires add-copy-at copy-at-requires-2 same-length returns)

@@ -1,11 +1,11 @@
 -- `control_due` meets its contract: each test is a line of the definition.
-use Rattle.cycle.specs.State.{dueOf}
+use Rattle.cycle.specs.State.{controlDue}
 use borrow.Author.Needs.{needs}
 use Rattle.cycle.proofs.state.DpMasterState.control_due.Statement.{statement}
 use Rattle.cycle.proofs.state.DpMasterState.control_due.Tie as tie
 
 returns : tie.Need-returns
-unfolding dueOf
+unfolding controlDue
 returns c =
     rw (c .if1 .taken)
 
@@ -19,12 +19,12 @@ since-requires : tie.Need-since-requires
 since-requires c κs = search needs
 
 returns-2 : tie.Need-returns-2
-unfolding dueOf
+unfolding controlDue
 returns-2 c =
     rw (c .before .before .before .if1 .left, c .before .before .if2 .taken, c .before .wide .ensures .0, c .since .ensures)
 
 returns-3 : tie.Need-returns-3
-unfolding dueOf
+unfolding controlDue
 returns-3 c =
     rw (c .before .if1 .left, c .if2 .left)
 

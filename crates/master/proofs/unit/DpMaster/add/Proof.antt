@@ -53,20 +53,20 @@ used-after-requires c κs =
 store-setup-requires : tie.Need-store-setup-requires
 store-setup-requires c κs = search needs
 
-place-requires : tie.Need-place-requires
-place-requires c κs = search needs
+widen16-requires : tie.Need-widen16-requires
+widen16-requires c κs = search needs
 
 clear-at-requires : tie.Need-clear-at-requires
 clear-at-requires c κs = search needs
 
-place-requires-2 : tie.Need-place-requires-2
-place-requires-2 c κs = search needs
+widen16-requires-2 : tie.Need-widen16-requires-2
+widen16-requires-2 c κs = search needs
 
 clear-at-requires-2 : tie.Need-clear-at-requires-2
 clear-at-requires-2 c κs = search needs
 
-place-requires-3 : tie.Need-place-requires-3
-place-requires-3 c κs = search needs
+widen16-requires-3 : tie.Need-widen16-requires-3
+widen16-requires-3 c κs = search needs
 
 clear-at-requires-3 : tie.Need-clear-at-requires-3
 clear-at-requires-3 c κs = search needs
@@ -94,9 +94,9 @@ returns-2 c =
     add-accepted _ _ (a .self) (a .a) _ _ (a .setup .now) (a .inputs .now) (a .outputs .now) (a .diags .now) _ _ _ _ _ (sym e ∙ c .before .before .before .before .before .before .before .before .before .before .before .before .before .before .before .before .before .before .before .before .before .before .before .if1 .left)
     (rw (c .before .before .before .before .before .before .before .before .before .before .before .before .before .before .before .before .before .before .before .used-after .ensures, c .before .before .before .before .before .before .before .before .before .before .before .before .before .before .before .before .before .before .before .before .new .ensures, c .before .before .before .before .before .before .before .before .before .before .before .before .before .before .before .before .before .before .before .before .before .ranges-at .ensures, c .before .before .before .before .before .before .before .before .before .before .before .before .before .before .before .before .before .before .before .before .before .before .options-held .ensures, c .before .before .before .before .before .before .before .before .before .before .before .before .before .before .before .before .before .before .before .before .before .before .before .before .before .before .before .present .ensures, c .before .before .before .before .before .before .before .before .before .before .before .before .before .before .before .before .before .before .before .before .before .before .before .before .before .before .present2 .ensures, c .before .before .before .before .before .before .before .before .before .before .before .before .before .before .before .before .before .before .before .before .before .before .before .before .before .first-empty .ensures) refl)
     (rw (c .before .before .before .before .before .before .before .before .before .before .before .before .before .before .before .before .before .before .before .before .before .before .before .before .before .before .before .present .ensures, c .before .before .before .before .before .before .before .before .before .before .before .before .before .before .before .before .before .before .before .before .before .before .before .before .before .before .present2 .ensures) at (c .before .before .before .before .before .before .before .before .before .before .before .before .before .before .before .before .before .store-setup .ensures))
-    (rw (c .before .before .before .before .before .before .before .before .before .before .before .before .before .place .ensures .0) at (c .before .before .before .before .before .before .before .before .before .before .before .before .clear-at .ensures .bytes))
-    (rw (c .before .before .before .before .before .before .before .before .place2 .ensures .0) at (c .before .before .before .before .before .before .before .clear-at2 .ensures .bytes))
-    (rw (c .before .before .before .place3 .ensures .0) at (c .before .before .clear-at3 .ensures .bytes))
+    (rw (c .before .before .before .before .before .before .before .before .before .before .before .before .before .widen16 .ensures .0) at (c .before .before .before .before .before .before .before .before .before .before .before .before .clear-at .ensures .bytes))
+    (rw (c .before .before .before .before .before .before .before .before .widen162 .ensures .0) at (c .before .before .before .before .before .before .before .clear-at2 .ensures .bytes))
+    (rw (c .before .before .before .widen163 .ensures .0) at (c .before .before .clear-at3 .ensures .bytes))
 
 pub add-spec : {M : Type 1} → statement M
 add-spec =
@@ -115,11 +115,11 @@ add-spec =
     element-write-m
     used-after-requires
     store-setup-requires
-    place-requires
+    widen16-requires
     clear-at-requires
-    place-requires-2
+    widen16-requires-2
     clear-at-requires-2
-    place-requires-3
+    widen16-requires-3
     clear-at-requires-3
     cast-t44
     same-length

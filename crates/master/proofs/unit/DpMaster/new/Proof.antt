@@ -8,15 +8,15 @@ use Rattle.master.proofs.unit.DpMaster.new.Tie as tie
 refusal-requires : tie.Need-refusal-requires
 refusal-requires c κs = search needs
 
-held-requires : tie.Need-held-requires
-held-requires c κs = search needs
+in-force-requires : tie.Need-in-force-requires
+in-force-requires c κs = search needs
 
 empty-unit-requires : tie.Need-empty-unit-requires
 empty-unit-requires c κs = search needs
 
 returns : tie.Need-returns
 returns c =
-    created (c .before .before .before .before .args .parameters) (c .empty-unit .result) (sym (c .before .before .before .refusal .ensures) ∙ c .before .before .if1 .taken) (rw (c .before .held .ensures) at (c .empty-unit .ensures))
+    created (c .before .before .before .before .args .parameters) (c .empty-unit .result) (sym (c .before .before .before .refusal .ensures) ∙ c .before .before .if1 .taken) (rw (c .before .in-force .ensures) at (c .empty-unit .ensures))
 
 lowest-requires : tie.Need-lowest-requires
 lowest-requires c κs = search needs
@@ -33,7 +33,7 @@ new-spec =
     tie.close
     (tie.spec
     refusal-requires
-    held-requires
+    in-force-requires
     empty-unit-requires
     returns
     lowest-requires

@@ -59,25 +59,25 @@ mul-q c = search needs
 element-set-from-q : tie.Need-element-set-from-q Inv-loop μ-loop
 element-set-from-q c = search needs
 
-cast-visited : tie.Need-cast-visited Inv-loop μ-loop
-cast-visited c = search needs
+cast-seen-after : tie.Need-cast-seen-after Inv-loop μ-loop
+cast-seen-after c = search needs
 
-visited-requires : tie.Need-visited-requires Inv-loop μ-loop
-visited-requires c κs = search needs
+seen-after-requires : tie.Need-seen-after-requires Inv-loop μ-loop
+seen-after-requires c κs = search needs
 
 next-requires : tie.Need-next-requires Inv-loop μ-loop
 next-requires c κs = search needs
 
 loop-less : tie.Need-loop-less Inv-loop μ-loop
 loop-less c =
-    let a = c .before .before .before .before .before .before .before .before .before .before .before .before .before .before .before .before .before .before .before .args in falls (a .self .parameters .«max_retry_limit») (a .self .occupied) (c .before .visited .result .sent) (c .before .before .before .before .before .before .loop .i) (c .next .result) (c .before .before .before .before .before .loop-test .taken) (c .next .ensures)
+    let a = c .before .before .before .before .before .before .before .before .before .before .before .before .before .before .before .before .before .before .before .args in falls (a .self .parameters .«max_retry_limit») (a .self .occupied) (c .before .seen-after .result .sent) (c .before .before .before .before .before .before .loop .i) (c .next .result) (c .before .before .before .before .before .loop-test .taken) (c .next .ensures)
 
 loop-again : tie.Need-loop-again Inv-loop μ-loop
 loop-again c =
     let a = c .before .before .before .before .before .before .before .before .before .before .before .before .before .before .before .before .before .before .before .args in
     let l = c .before .before .before .before .before .before .loop in
-    sweeping-goes-on (a .self .parameters .«max_retry_limit») (a .self .occupied) _ (a .self) (l .m) (l .seen) (c .before .visited .result) (l .i) (c .next .result) (c .before .before .before .visit .result) (c .before .before .before .before .before .loop-test .taken) (l .inv)
-    (c .before .before .before .visit .ensures) (c .before .visited .ensures) (c .next .ensures)
+    sweeping-goes-on (a .self .parameters .«max_retry_limit») (a .self .occupied) _ (a .self) (l .m) (l .seen) (c .before .seen-after .result) (l .i) (c .next .result) (c .before .before .before .visit .result) (c .before .before .before .before .before .loop-test .taken) (l .inv)
+    (c .before .before .before .visit .ensures) (c .before .seen-after .ensures) (c .next .ensures)
 
 after-turn-requires : tie.Need-after-turn-requires Inv-loop μ-loop
 after-turn-requires c κs = search needs
@@ -149,8 +149,8 @@ transmit-telegram-spec =
     visit-requires
     mul-q
     element-set-from-q
-    cast-visited
-    visited-requires
+    cast-seen-after
+    seen-after-requires
     next-requires
     loop-less
     loop-again

@@ -5,8 +5,8 @@ use lib.ListN.{length}
 use Prim.Native.Nat.{_-_, _≤_}
 use Rattle.parts.proofs.Laws.{rest}
 use mathlib.Core.Bool.{true}
-use Rattle.telegrams.specs.Diagnosis.{taken}
-use Rattle.telegrams.proofs.Facts.{taken-six}
+use Rattle.payloads.specs.Diagnosis.{taken}
+use Rattle.payloads.proofs.Facts.{taken-six}
 use Rattle.peripheral.proofs.Facts.{took-extended, took-plain, not-taken}
 use borrow.Author.Needs.{needs}
 use Rattle.peripheral.proofs.record.Peripheral.handle_diagnostics_response.Statement.{
@@ -26,8 +26,8 @@ is-taken-requires c κs = search needs
 read-diagnosis-requires : tie.Need-read-diagnosis-requires
 read-diagnosis-requires c κs = search needs
 
-place-requires : tie.Need-place-requires
-place-requires c κs = search needs
+widen16-requires : tie.Need-widen16-requires
+widen16-requires c κs = search needs
 
 sub-store-extended : tie.Need-sub-store-extended
 sub-store-extended c =
@@ -51,7 +51,7 @@ same-length c = search needs
 
 returns : tie.Need-returns
 returns c =
-    let a = c .before .before .before .before .before .before .before .before .before .before .before .before .before .before .args in took-extended (a .telegram) (a .self) (a .payload .now) (a .diags .now) (is-taken (c .before .before .before .before .before .before .before .before .before)) (c .before .before .before .before .before .before .before .before .read-diagnosis .result) (c .before .before .before .before .before .before .before .before .read-diagnosis .ensures) (c .before .before .before .store-extended .result) (c .took .result) (c .took .ensures) (c .before .before .before .store-extended .last .0) _ (c .before .before .before .before .before .before .before .if2 .taken) (rest 6 (a .payload .now)) (rw (c .before .before .before .before .before .before .place .ensures .0) at (c .before .before .before .store-extended .ensures))
+    let a = c .before .before .before .before .before .before .before .before .before .before .before .before .before .before .args in took-extended (a .telegram) (a .self) (a .payload .now) (a .diags .now) (is-taken (c .before .before .before .before .before .before .before .before .before)) (c .before .before .before .before .before .before .before .before .read-diagnosis .result) (c .before .before .before .before .before .before .before .before .read-diagnosis .ensures) (c .before .before .before .store-extended .result) (c .took .result) (c .took .ensures) (c .before .before .before .store-extended .last .0) _ (c .before .before .before .before .before .before .before .if2 .taken) (rest 6 (a .payload .now)) (rw (c .before .before .before .before .before .before .widen16 .ensures .0) at (c .before .before .before .store-extended .ensures))
 
 took-requires-2 : tie.Need-took-requires-2
 took-requires-2 c κs = search needs
@@ -70,7 +70,7 @@ handle-diagnostics-response-spec =
     (tie.spec
     is-taken-requires
     read-diagnosis-requires
-    place-requires
+    widen16-requires
     sub-store-extended
     part-store-extended-start
     part-store-extended-end

@@ -4,18 +4,18 @@ use mathlib.Core.List.{_++_}
 use lib.ListN.{length}
 use Prim.Native.Nat.{_+_, _-_}
 use Rattle.parts.specs.Parts.{zeros}
-use Rattle.telegrams.specs.Payload.{paramHead}
+use Rattle.payloads.specs.Payload.{paramHead}
 use Rattle.peripheral.specs.Visit.{payloadOf}
-use Rattle.telegrams.proofs.Facts.{written-as}
+use Rattle.payloads.proofs.Facts.{written-as}
 use borrow.Author.Needs.{needs}
 use Rattle.peripheral.proofs.record.Peripheral.write_payload.Statement.{statement}
 use Rattle.peripheral.proofs.record.Peripheral.write_payload.Tie as tie
 
-place-requires : tie.Need-place-requires
-place-requires c κs = search needs
+widen16-requires : tie.Need-widen16-requires
+widen16-requires c κs = search needs
 
-size-requires : tie.Need-size-requires
-size-requires c κs = search needs
+widen8-requires : tie.Need-widen8-requires
+widen8-requires c κs = search needs
 
 enum-told : tie.Need-enum-told
 enum-told c = search needs
@@ -38,8 +38,8 @@ enum-told-3 c = search needs
 add-part : tie.Need-add-part
 add-part c = search needs
 
-size-requires-2 : tie.Need-size-requires-2
-size-requires-2 c κs = search needs
+widen8-requires-2 : tie.Need-widen8-requires-2
+widen8-requires-2 c κs = search needs
 
 part-requires-2 : tie.Need-part-requires-2
 part-requires-2 c κs = search needs
@@ -86,7 +86,7 @@ returns-3 : tie.Need-returns-3
 unfolding payloadOf
 returns-3 c =
     let a = c .before .before .before .before .before .before .before .before .before .before .before .before .before .args in
-    let e : paramHead (a .u) (a .self .options) ++ c .before .before .before .before .before .part .result .now ≡ payloadOf (a .kind) (a .u) (a .clear) (a .self) (a .setup .now) (a .outputs .now) = simp (c .before .before .before .before .before .before .enum-told2 .given .1, c .before .before .before .before .before .part .ensures .holds, c .before .before .before .before .before .before .before .before .before .place .ensures .0, c .before .before .before .before .before .before .before .before .size .ensures .0) in
+    let e : paramHead (a .u) (a .self .options) ++ c .before .before .before .before .before .part .result .now ≡ payloadOf (a .kind) (a .u) (a .clear) (a .self) (a .setup .now) (a .outputs .now) = simp (c .before .before .before .before .before .before .enum-told2 .given .1, c .before .before .before .before .before .part .ensures .holds, c .before .before .before .before .before .before .before .before .before .widen16 .ensures .0, c .before .before .before .before .before .before .before .before .widen8 .ensures .0) in
     written-as _ _ _ _ _ e (c .before .before .write-parameters .ensures)
 
 same-length-4 : tie.Need-same-length-4
@@ -96,7 +96,7 @@ returns-4 : tie.Need-returns-4
 unfolding payloadOf
 returns-4 c =
     let a = c .before .before .before .before .before .before .before .before .before .before .before .before .before .args in
-    let e : c .before .before .before .before .part2 .result .now ≡ payloadOf (a .kind) (a .u) (a .clear) (a .self) (a .setup .now) (a .outputs .now) = simp (c .before .before .before .before .before .before .enum-told3 .given .1, c .before .before .before .before .part2 .ensures .holds, c .before .before .before .before .before .before .before .before .before .place .ensures .0, c .before .before .before .before .before .before .before .before .size .ensures .0, c .before .before .before .before .before .size2 .ensures .0) in
+    let e : c .before .before .before .before .part2 .result .now ≡ payloadOf (a .kind) (a .u) (a .clear) (a .self) (a .setup .now) (a .outputs .now) = simp (c .before .before .before .before .before .before .enum-told3 .given .1, c .before .before .before .before .part2 .ensures .holds, c .before .before .before .before .before .before .before .before .before .widen16 .ensures .0, c .before .before .before .before .before .before .before .before .widen8 .ensures .0, c .before .before .before .before .before .widen82 .ensures .0) in
     written-as _ _ _ _ _ e (c .before .before .write-bytes .ensures)
 
 same-length-5 : tie.Need-same-length-5
@@ -113,8 +113,8 @@ pub write-payload-spec : {M : Type 1} → statement M
 write-payload-spec =
     tie.close
     (tie.spec
-    place-requires
-    size-requires
+    widen16-requires
+    widen8-requires
     enum-told
     write-zeros-requires
     enum-told-2
@@ -122,7 +122,7 @@ write-payload-spec =
     write-parameters-requires
     enum-told-3
     add-part
-    size-requires-2
+    widen8-requires-2
     part-requires-2
     write-bytes-requires
     enum-told-4

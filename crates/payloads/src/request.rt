@@ -1,0 +1,85 @@
+// The four requests, and the header of each.
+ghost use mathlib.Core.Path.{_≡_};
+ghost use Rattle.payloads.specs.Request.{kindNumber, headerOf, controlHeader};
+use fdl::consts::Service;
+use fdl::telegram::DataTelegramHeader;
+use fdl::telegram::FrameCountBit;
+use fdl::telegram::RequestType;
+
+pub enum Request {
+    Diagnosis,
+    Parameters,
+    Configuration,
+    Data,
+}
+
+// The header of the global control, which goes to all.
+pub fn control_header(sa: u8) -> DataTelegramHeader
+    ensures { λ r. ⌜ r ≡ controlHeader sa ⌝ }
+{
+    let dsap = Service::SlaveGlobalControl.sap();
+    let ssap = Service::MasterMs0.sap();
+    DataTelegramHeader {
+        da: 0x7F,
+        sa: sa,
+        dsap: dsap,
+        ssap: ssap,
+        fcb: FrameCountBit::Inactive,
+        req: RequestType::SdnLow,
+    }
+}
+
+impl Request {
+    // 0 stands for no request.
+    pub fn number(self) -> u8
+        ensures { λ r. ⌜ r ≡ kindNumber self ⌝ }
+    {
+        match self {
+            Request::Diagnosis => 1,
+            Request::Parameters => 2,
+            Request::Configuration => 3,
+            Request::Data => 4,
+        }
+    }
+
+    // The header of this request from the station `sa` to the station `da`.
+    pub fn header(self, da: u8, sa: u8, fcb: FrameCountBit) -> DataTelegramHeader
+        ensures { λ r. ⌜ r ≡ headerOf self da sa fcb ⌝ }
+    {
+        let ms0 = Service::MasterMs0.sap();
+        match self {
+            Request::Diagnosis => DataTelegramHeader {
+                da: da,
+                sa: sa,
+                dsap: Service::SlaveDiagnosis.sap(),
+                ssap: ms0,
+                fcb: fcb,
+                req: RequestType::SrdLow,
+            },
+            Request::Parameters => DataTelegramHeader {
+                da: da,
+                sa: sa,
+                dsap: Service::SlaveSetPrm.sap(),
+                ssap: ms0,
+                fcb: fcb,
+                req: RequestType::SrdLow,
+            },
+            Request::Configuration => DataTelegramHeader {
+                da: da,
+                sa: sa,
+                dsap: Service::SlaveChkCfg.sap(),
+                ssap: ms0,
+                fcb: fcb,
+                req: RequestType::SrdLow,
+            },
+            Request::Data => DataTelegramHeader {
+                da: da,
+                sa: sa,
+                dsap: Service::SlaveDataExchange.sap(),
+                ssap: Service::MasterDataExchange.sap(),
+                fcb: fcb,
+                req: RequestType::SrdHigh,
+            },
+        }
+    }
+}

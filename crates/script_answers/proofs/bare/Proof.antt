@@ -1,0 +1,22 @@
+-- `bare` meets its contract: two bytes, one after the other.
+use borrow.Author.Needs.{needs}
+use mathlib.Core.Path.{_∙_}
+use mathlib.Core.List.{[], _∷_}
+use Rattle.script_fields.proofs.Laws.{then}
+use Rattle.script_answers.proofs.bare.Statement.{statement}
+use Rattle.script_answers.proofs.bare.Tie as tie
+
+put-requires : tie.Need-put-requires
+put-requires c κs = search needs
+
+put-requires-2 : tie.Need-put-requires-2
+put-requires-2 c κs = search needs
+
+same-length : tie.Need-same-length
+same-length c = c .before .before .put2 .kept .0 ∙ c .before .before .before .before .before .before .put .kept .0
+
+returns : tie.Need-returns
+returns c = then (c .before .before .before .before .before .before .before .before .before .args .letter ∷ []) (10 ∷ []) _ _ _ (c .before .before .before .before .before .before .put .ensures) (c .before .before .put2 .ensures)
+
+pub bare-spec : {M : Type 1} → statement M
+bare-spec = tie.close (tie.spec put-requires put-requires-2 same-length returns)

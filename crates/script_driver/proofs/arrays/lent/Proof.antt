@@ -1,0 +1,24 @@
+-- `lent` meets its contract: a front that is cut off at the array's end is the front that was asked for.
+use mathlib.Core.Path.{refl}
+use native.Mathlib.Omega.{arith}
+use Rattle.script_driver.proofs.Laws.{front-size, short-take}
+use borrow.Author.Needs.{needs}
+use Rattle.script_driver.proofs.arrays.lent.Statement.{statement}
+use Rattle.script_driver.proofs.arrays.lent.Tie as tie
+
+front-requires : tie.Need-front-requires
+front-requires c κs = search needs
+
+slice-aggregate-result : tie.Need-slice-aggregate-result
+slice-aggregate-result c = front-size (c .before .before .before .args .n) (c .before .front .result) (c .before .before .before .args .src .now) (c .before .front .ensures)
+
+returns : tie.Need-returns
+returns c =
+    record {
+      holds = short-take (c .before .before .before .args .n) (c .before .front .result) (c .before .before .before .args .src .now) (c .before .front .ensures);
+      block = refl;
+      offset = omega arith;
+    }
+
+pub lent-spec : {M : Type 1} → statement M
+lent-spec = tie.close (tie.spec front-requires slice-aggregate-result returns)

@@ -1,0 +1,35 @@
+-- `add` meets its contract: numbers, the set-up data, and three lengths.
+use borrow.Author.Needs.{needs}
+use Rattle.script_lines.specs.Call.{addCall}
+use Rattle.script_lines.proofs.add.Statement.{statement}
+use Rattle.script_lines.proofs.add.Tie as tie
+
+stem-requires : tie.Need-stem-requires
+stem-requires c κs = search needs
+
+setup-requires : tie.Need-setup-requires
+setup-requires c κs = search needs
+
+setup-requires-2 : tie.Need-setup-requires-2
+setup-requires-2 c κs = search needs
+
+lengths-requires : tie.Need-lengths-requires
+lengths-requires c κs = search needs
+
+addition-requires : tie.Need-addition-requires
+addition-requires c κs = search needs
+
+ending-requires : tie.Need-ending-requires
+ending-requires c κs = search needs
+
+returns : tie.Need-returns
+unfolding addCall
+returns c =
+    record {
+      answer = simp (c .ending .ensures, c .before .addition .ensures, c .before .before .lengths .ensures, c .before .before .before .setup2 .ensures .answer, c .before .before .before .before .before .setup .ensures .answer, c .before .before .before .before .before .before .before .stem .ensures);
+      first = simp (c .before .before .before .before .before .before .before .stem .ensures) at (c .before .before .before .before .before .setup .ensures .bytes);
+      second = simp (c .before .before .before .before .before .setup .ensures .answer, c .before .before .before .before .before .before .before .stem .ensures) at (c .before .before .before .setup2 .ensures .bytes);
+    }
+
+pub add-spec : {M : Type 1} → statement M
+add-spec = tie.close (tie.spec stem-requires setup-requires setup-requires-2 lengths-requires addition-requires ending-requires returns)

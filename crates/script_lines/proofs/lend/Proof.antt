@@ -1,0 +1,33 @@
+-- `lend` meets its contract: the fields one after the other, as the definition has them.
+use borrow.Author.Needs.{needs}
+use Rattle.script_lines.specs.Call.{lendCall}
+use Rattle.script_lines.proofs.lend.Statement.{statement}
+use Rattle.script_lines.proofs.lend.Tie as tie
+
+wide-number-requires : tie.Need-wide-number-requires
+wide-number-requires c κs = search needs
+
+wide-number-requires-2 : tie.Need-wide-number-requires-2
+wide-number-requires-2 c κs = search needs
+
+wide-number-requires-3 : tie.Need-wide-number-requires-3
+wide-number-requires-3 c κs = search needs
+
+wide-number-requires-4 : tie.Need-wide-number-requires-4
+wide-number-requires-4 c κs = search needs
+
+wide-number-requires-5 : tie.Need-wide-number-requires-5
+wide-number-requires-5 c κs = search needs
+
+wide-number-requires-6 : tie.Need-wide-number-requires-6
+wide-number-requires-6 c κs = search needs
+
+ending-requires : tie.Need-ending-requires
+ending-requires c κs = search needs
+
+returns : tie.Need-returns
+unfolding lendCall
+returns c = simp (c .ending .ensures, c .before .wide-number6 .ensures, c .before .before .wide-number5 .ensures, c .before .before .before .wide-number4 .ensures, c .before .before .before .before .wide-number3 .ensures, c .before .before .before .before .before .wide-number2 .ensures, c .before .before .before .before .before .before .wide-number .ensures)
+
+pub lend-spec : {M : Type 1} → statement M
+lend-spec = tie.close (tie.spec wide-number-requires wide-number-requires-2 wide-number-requires-3 wide-number-requires-4 wide-number-requires-5 wide-number-requires-6 ending-requires returns)

@@ -1,0 +1,30 @@
+-- `lengths` meets its contract: three numbers, one after the other.
+use borrow.Author.Needs.{needs}
+use Rattle.script_lines.specs.Call.{lengthsAt}
+use Rattle.script_lines.proofs.lengths.Statement.{statement}
+use Rattle.script_lines.proofs.lengths.Tie as tie
+
+wide-number-requires : tie.Need-wide-number-requires
+wide-number-requires c κs = search needs
+
+wide-number-requires-2 : tie.Need-wide-number-requires-2
+wide-number-requires-2 c κs = search needs
+
+wide-number-requires-3 : tie.Need-wide-number-requires-3
+wide-number-requires-3 c κs = search needs
+
+widen16-requires : tie.Need-widen16-requires
+widen16-requires c κs = search needs
+
+widen16-requires-2 : tie.Need-widen16-requires-2
+widen16-requires-2 c κs = search needs
+
+widen16-requires-3 : tie.Need-widen16-requires-3
+widen16-requires-3 c κs = search needs
+
+returns : tie.Need-returns
+unfolding lengthsAt
+returns c = simp (c .widen163 .ensures .0, c .before .widen162 .ensures .0, c .before .before .widen16 .ensures .0, c .before .before .before .before .wide-number3 .ensures, c .before .before .before .before .before .wide-number2 .ensures, c .before .before .before .before .before .before .wide-number .ensures)
+
+pub lengths-spec : {M : Type 1} → statement M
+lengths-spec = tie.close (tie.spec wide-number-requires wide-number-requires-2 wide-number-requires-3 widen16-requires widen16-requires-2 widen16-requires-3 returns)

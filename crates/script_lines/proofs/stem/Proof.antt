@@ -1,0 +1,30 @@
+-- `stem` meets its contract: six numbers, one after the other.
+use borrow.Author.Needs.{needs}
+use Rattle.script_lines.specs.Call.{stemAt}
+use Rattle.script_lines.proofs.stem.Statement.{statement}
+use Rattle.script_lines.proofs.stem.Tie as tie
+
+small-requires : tie.Need-small-requires
+small-requires c κs = search needs
+
+wide-number-requires : tie.Need-wide-number-requires
+wide-number-requires c κs = search needs
+
+flag-requires : tie.Need-flag-requires
+flag-requires c κs = search needs
+
+flag-requires-2 : tie.Need-flag-requires-2
+flag-requires-2 c κs = search needs
+
+small-requires-2 : tie.Need-small-requires-2
+small-requires-2 c κs = search needs
+
+flag-requires-3 : tie.Need-flag-requires-3
+flag-requires-3 c κs = search needs
+
+returns : tie.Need-returns
+unfolding stemAt
+returns c = simp (c .before .flag3 .ensures, c .before .before .small2 .ensures, c .before .before .before .flag2 .ensures, c .before .before .before .before .flag .ensures, c .before .before .before .before .before .wide-number .ensures, c .before .before .before .before .before .before .small .ensures)
+
+pub stem-spec : {M : Type 1} → statement M
+stem-spec = tie.close (tie.spec small-requires wide-number-requires flag-requires flag-requires-2 small-requires-2 flag-requires-3 returns)

@@ -1,0 +1,194 @@
+// A bench with balances on it: the unit and its pools by value, and the calls on them.
+ghost use mathlib.Core.Path.{_≡_};
+ghost use Rattle.trial_runs.specs.Bench.{benchCreated, emptyBench, diagnosisTelegram, dataTelegram, PlacedOn, SeenOn, RepliedOn};
+use answers::reply::ReplyAnswer;
+use answers::turn::TurnAnswer;
+use fdl::consts::Sap;
+use fdl::parameters::Parameters;
+use fdl::telegram::Telegram;
+use master::add::Addition;
+use master::unit::Done;
+use master::unit::DpMaster;
+use payloads::options::PeripheralOptions;
+use peripheral_set::PeripheralHandle;
+
+// What stands in the input pool before a reply.
+pub const KEPT: u8 = 7;
+
+// The unit, and the pools that the trials look at: by value, so that a trial is a chain of calls.
+pub struct Bench {
+    pub unit: DpMaster,
+    pub setup: [u8; 512],
+    pub inputs: [u8; 8],
+}
+
+// What an add answers, and the two pools that no trial looks at.
+pub struct Placed {
+    pub refusal: u8,
+    pub handle: PeripheralHandle,
+    pub bench: Bench,
+    pub outputs: [u8; 8],
+    pub diags: [u8; 8],
+}
+
+// What a turn answers, and the payload.
+pub struct Seen {
+    pub bench: Bench,
+    pub answer: TurnAnswer,
+    pub payload: [u8; 244],
+}
+
+// What a reply answers, and the pool that no trial looks at.
+pub struct Replied {
+    pub bench: Bench,
+    pub answer: ReplyAnswer,
+    pub diags: [u8; 8],
+}
+
+// The watchdog and Tsdr of the first trial, the slot time of the eighth.
+pub fn created(limit: u8) -> Done
+    ensures { λ r. ⌜ r ≡ benchCreated limit ⌝ }
+{
+    DpMaster::new(Parameters {
+        slot_time: 200,
+        setup_pool: 512,
+        input_pool: 8,
+        output_pool: 8,
+        diag_pool: 8,
+        address: 2,
+        max_retry_limit: limit,
+        watchdog: true,
+        watchdog_first: 2,
+        watchdog_second: 5,
+        min_tsdr_bits: 11,
+    })
+}
+
+// A bench with no balance, in Operate.
+pub fn empty(limit: u8) -> Bench
+    ensures { λ r. ⌜ r ≡ emptyBench limit ⌝ }
+{
+    let made = created(limit);
+    let fresh = made.master;
+    Bench {
+        unit: fresh.enter_operate(),
+        setup: [0u8; 512],
+        inputs: [KEPT; 8],
+    }
+}
+
+// One balance more, with the ident and groups of the first trial.
+pub fn add(b: Bench, address: u8, image: usize, user: &[u8]) -> Placed
+    ensures { λ r. ⌜ PlacedOn b address image (now (user .entry)) r ⌝ }
+{
+    let options = PeripheralOptions {
+        ident_number: 0x1234,
+        max_tsdr: 100,
+        groups: 0,
+        sync_mode: false,
+        freeze_mode: false,
+        fail_safe: false,
+        has_user_parameters: true,
+        user_parameters: 0,
+        has_config: true,
+        config: 0,
+    };
+    let addition = Addition {
+        address: address,
+        options: options,
+        input_len: image,
+        output_len: 0,
+        room: 0,
+    };
+    let config = [0u8; 0];
+    let mut setup = b.setup;
+    let mut inputs = b.inputs;
+    let mut outputs = [0u8; 8];
+    let mut diags = [0u8; 8];
+    let unit = b.unit;
+    let added = unit.add(
+        addition,
+        user,
+        &config,
+        &mut setup,
+        &mut inputs,
+        &mut outputs,
+        &mut diags,
+    );
+    let after = added.master;
+    let handle = added.handle;
+    Placed {
+        refusal: added.refusal,
+        handle: handle,
+        bench: Bench {
+            unit: after,
+            setup: setup,
+            inputs: inputs,
+        },
+        outputs: outputs,
+        diags: diags,
+    }
+}
+
+pub fn diagnosis() -> Telegram
+    ensures { λ r. ⌜ r ≡ diagnosisTelegram ⌝ }
+{
+    Telegram::Data {
+        dsap: Sap::At(62),
+        ssap: Sap::At(60),
+        status: 8,
+    }
+}
+
+pub fn data(status: u8) -> Telegram
+    ensures { λ r. ⌜ r ≡ dataTelegram status ⌝ }
+{
+    Telegram::Data {
+        dsap: Sap::Absent,
+        ssap: Sap::Absent,
+        status: status,
+    }
+}
+
+pub fn turn(b: Bench, time: u64) -> Seen
+    ensures { λ r. ⌜ SeenOn b time r ⌝ }
+{
+    let setup = b.setup;
+    let inputs = b.inputs;
+    let outputs = [0u8; 8];
+    let mut payload = [0xFFu8; 244];
+    let unit = b.unit;
+    let t = unit.transmit_telegram(time, false, &setup, &outputs, &mut payload);
+    let answer = t.answer;
+    let after = t.master;
+    Seen {
+        bench: Bench {
+            unit: after,
+            setup: setup,
+            inputs: inputs,
+        },
+        answer: answer,
+        payload: payload,
+    }
+}
+
+pub fn reply(b: Bench, address: u8, telegram: Telegram, payload: &[u8]) -> Replied
+    ensures { λ r. ⌜ RepliedOn b address telegram (now (payload .entry)) r ⌝ }
+{
+    let setup = b.setup;
+    let mut inputs = b.inputs;
+    let mut diags = [0u8; 8];
+    let unit = b.unit;
+    let r = unit.receive_reply(address, telegram, payload, &mut inputs, &mut diags);
+    let answer = r.answer;
+    let after = r.master;
+    Replied {
+        bench: Bench {
+            unit: after,
+            setup: setup,
+            inputs: inputs,
+        },
+        answer: answer,
+        diags: diags,
+    }
+}

@@ -1,0 +1,25 @@
+-- Each row of the table has the number that 01 gives it, and comes out as 01 says.
+-- The idea: both columns are computed, and are the same list.
+use mathlib.Core.Path.{_≡_, refl}
+use mathlib.Core.List.{map}
+use Rattle.parts.specs.Parts.{part, inside, putIn, roomFor, splice}
+use Rattle.fdl.specs.Params.{inRange, inForce}
+use Rattle.payloads.specs.Payload.{paramHead, controlPayload}
+use Rattle.payloads.specs.Diagnosis.{diagnosisOf}
+use Rattle.station.specs.Record.{tookOf}
+use Rattle.station.specs.Visit.{wishOf}
+use Rattle.station.specs.Reply.{byFlags, heardOf}
+use Rattle.peripheral.specs.Visit.{payloadOf}
+use Rattle.peripheral.specs.Reply.{storedLength, diagsTaken, stationTook, isImage, hearsOf}
+use Rattle.peripheral_set.specs.Marks.{searchFrom}
+use Rattle.cycle.specs.State.{controlDue}
+use Rattle.cycle.specs.Refusal.{turnRefusal, replyRefusal, addressRefusal, lengthRefusal, roomRefusal, addRefusal}
+use Rattle.master.specs.Unit.{emptyUnit, createdOf}
+use Rattle.master.specs.Turn.{sweepFrom, sweptBy, turnPayload, turnAnswer}
+use Rattle.master.specs.Reply.{replyAt}
+use Rattle.log.specs.Calls.{step}
+use Rattle.trial_table.specs.Table.{table, lineOf, marked, expectedIn}
+
+pub rows-hold : map lineOf table ≡ expectedIn marked table
+unfolding step inRange inForce createdOf emptyUnit addRefusal addressRefusal lengthRefusal roomRefusal part inside putIn roomFor splice paramHead controlPayload diagnosisOf tookOf wishOf byFlags heardOf payloadOf storedLength diagsTaken stationTook isImage hearsOf searchFrom controlDue turnRefusal replyRefusal sweepFrom sweptBy turnPayload turnAnswer replyAt
+rows-hold = refl
