@@ -1,7 +1,7 @@
 pub mod Law
 pub mod Parts
 pub mod Fdl
-pub mod Telegrams
+pub mod Payloads
 pub mod Station
 pub mod Peripheral
 pub mod PeripheralSet
@@ -9,8 +9,8 @@ pub mod Cycle
 pub mod Answers
 pub mod Master
 pub mod Access
-pub mod Fields
-pub mod Lines
-pub mod AnswerLines
-pub mod Dump
-pub mod Driver
+pub mod ScriptFields
+pub mod ScriptLines
+pub mod ScriptAnswers
+pub mod ScriptDump
+pub mod ScriptDriver

@@ -1,4 +1,4 @@
--- Five units that could pass for one, each wrong inState every call it is about. The inputs inState which each is told from the promised one stand in Life.antt.
+-- Five units that could pass for one, each wrong at every call it is about. The inputs at which each is told from the promised one stand in Life.antt.
 -- From 01, "What the contracts have to say".
 use Prim.Native.Nat.{ℕ}
 use mathlib.Core.Bool.{Bool, false, cond}
@@ -38,7 +38,7 @@ sameAnswer w c = record { world = step w c .world; answer = plain 0 0 c }
 abbrev pub doesNothing : World → Call → Outcome
 doesNothing w c = record { world = w; answer = step w c .answer }
 
--- running all states inState the first reply, and then pretending: after an accepted reply the balance that answered is in DataExchange, and the answer is the promised one
+-- running all states at the first reply, and then pretending: after an accepted reply the balance that answered is in DataExchange, and the answer is the promised one
 abbrev pub inExchange : Peripheral → Peripheral
 inExchange p = stationIs (inState DataExchange (p .station)) p
 
@@ -54,7 +54,7 @@ replyTaken (replied a) = eqb (a .refusal) 0
 abbrev pub runsAll : World → Call → Outcome
 runsAll w c = let o : Outcome = step w c in record { world = cond (replyTaken (o .answer)) (pretending (w .unit .state .«open_slot») (o .world)) (o .world); answer = o .answer }
 
--- an invented Offline mask, inState every turn
+-- an invented Offline mask, at every turn
 abbrev pub maskInvented : TurnAnswer → TurnAnswer
 maskInvented a =
     record {

@@ -12,7 +12,7 @@ use Rattle.station.specs.declared.state.PeripheralState.{PeripheralState
 use Rattle.station.specs.declared.state.PeripheralState.the-variants.{Offline, WaitForParam, WaitForConfig, ValidateConfig, PreDataExchange, DataExchange}
 use Rattle.station.specs.State.{numberOf, stateOf}
 
--- as newly added: Offline, count 0, the bit inState First, no diagnosis held or due, stored length 0
+-- as newly added: Offline, count 0, the bit at First, no diagnosis held or due, stored length 0
 abbrev pub newStation : ℕ → Station
 newStation a =
     record {
@@ -58,7 +58,7 @@ dueIs b p = changed p (p .state) (p .«retry_count») (p .fcb) b (p .«diag_len�
 abbrev pub holding : DiagnosticsInfo → ℕ → Station → Station
 holding d n p = changed p (p .state) (p .«retry_count») (p .fcb) (p .«diag_needed») n d
 
--- one more, which stays inState 255
+-- one more, which stays at 255
 abbrev pub oneMore : ℕ → ℕ
 oneMore n = cond (ltb n 255) (n + 1) 255
 

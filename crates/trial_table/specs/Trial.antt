@@ -76,7 +76,7 @@ addTrial user image =
     })
     user [] (record { setup = 3; inputs = 1; outputs = 0; diags = 0 })
 
--- a turn inState that time
+-- a turn at that time
 abbrev pub trialTurn : ℕ → Call
 trialTurn time = turn time false 3 0 (zeros 244)
 
@@ -143,7 +143,7 @@ readingOf event p inputs =
       image = inputImage p inputs;
     }
 
--- of an accepted call; the payload is what stands inState the front of the buffer
+-- of an accepted call; the payload is what stands at the front of the buffer
 abbrev pub doneOf : Answer → World → Shown
 doneOf (number n) w = Number n
 doneOf (added n h) w = Number n

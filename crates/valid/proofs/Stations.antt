@@ -135,7 +135,7 @@ module _ (k : ℕ) (due : Bool) where
   or-kind : T (eqb k 4 || (eqb k 1 && due)) → (1 ≤ k) × (k ≤ 4)
   or-kind h =
       by-test (eqb k 4) (λ e. omega (arith, eqb-true k 4 e))
-      (λ e. by-test (eqb k 1) (λ f. omega (arith, eqb-true k 1 f)) (λ f. absurd (rw (e, f) inState h)))
+      (λ e. by-test (eqb k 1) (λ f. omega (arith, eqb-true k 1 f)) (λ f. absurd (rw (e, f) at h)))
 
   pub kind-among : (x : PeripheralState) → T (fits x due k) → (1 ≤ k) × (k ≤ 4)
   kind-among Offline h = omega (arith, eqb→eq k 1 h)

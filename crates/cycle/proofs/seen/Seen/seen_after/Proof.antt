@@ -1,4 +1,4 @@
--- `visited` meets its contract: an arm for each thing that a visit does.
+-- `seen_after` meets its contract: an arm for each thing that a visit does.
 use borrow.Author.Tests.{eq-eqb, ne-eqb}
 use borrow.Author.Needs.{needs}
 use Rattle.cycle.proofs.seen.Seen.seen_after.Statement.{statement}

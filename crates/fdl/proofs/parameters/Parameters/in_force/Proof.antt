@@ -1,4 +1,4 @@
--- `Parameters::inForce` meets its contract: the two factors are what `factor` promises, every other field is kept.
+-- `Parameters::in_force` meets its contract: the two factors are what `factor` promises, every other field is kept.
 use borrow.Author.Needs.{needs}
 use Rattle.fdl.specs.Params.{inForce}
 use Rattle.fdl.proofs.parameters.Parameters.in_force.Statement.{statement}

@@ -1,4 +1,4 @@
--- Any two results that a contract of `driver` allows coincide: a statement for each public function.
+-- Any two results that a contract of `script_driver` allows coincide: a statement for each public function.
 -- The idea: a contract is an equation for the answer and for each array, or for the lent front of an array and for the rest, which make the whole.
 use mathlib.Core.Path.{_≡_, sym, ap, _∙_, refl}
 use mathlib.Core.List.{List, _++_}
