@@ -1,7 +1,7 @@
 -- An accepted add keeps what holds of unit and log.
--- The idea: the new range lies after all others and is zeroed, and the note of an add leaves the last request.
-use mathlib.Core.Path.{_≡_, refl, sym, ap, _∙_}
-use mathlib.Core.Bool.{true, false}
+-- The idea: the new range lies after all others and is zeroed, and no request is open at the new slot.
+use mathlib.Core.Path.{_≡_, refl, sym, ap, _∙_, subst}
+use mathlib.Core.Bool.{true, false, false≢true}
 use mathlib.Core.Logic.{inl}
 use mathlib.Core.List.{List}
 use mathlib.Core.Option.{none}
@@ -10,9 +10,9 @@ use native.Mathlib.Omega.{arith}
 use lib.ListN.{length, getD, set, length-replicate}
 use lib.Seq.{getD-set-other}
 use lib.Dec.{eqb}
-use borrow.Author.Tests.{eq-eqb, not-true, not-false}
+use borrow.Author.Tests.{not-true, not-false}
 use Rattle.parts.specs.Parts.{part, roomFor, zeros}
-use Rattle.parts.proofs.Laws.{inside-yes, room-yes, part-put, part-put-other, length-put}
+use Rattle.parts.proofs.Laws.{by-test, inside-yes, room-yes, part-put, part-put-other, length-put}
 use Rattle.peripheral.specs.declared.record.Peripheral.{Peripheral}
 use Rattle.peripheral.specs.Record.{newBalance, inputImage}
 use Rattle.peripheral_set.specs.Marks.{slots, firstEmpty}
@@ -25,11 +25,12 @@ use Rattle.master.specs.declared.unit.DpMaster.{DpMaster}
 use Rattle.master.specs.declared.add.Addition.{Addition}
 use Rattle.master.specs.Add.{rangesAt, optionsHeld, cleared, lengthsOf, userOf, configOf}
 use Rattle.valid.specs.Valid.{Valid, balance, occupied}
+use Rattle.valid.proofs.Balances.{open-there}
 use Rattle.log.specs.Calls.{World, lend, back, add, added, addStep, addNumber}
-use Rattle.log.specs.Words.{Entry, Note, wasAdded, Frame, slotLog, frameAfter, FirstEmpty, imageOf}
-use Rattle.log.proofs.Stations.{Told, told-added}
+use Rattle.log.specs.Words.{Entry, wasAdded, Frame, slotLog, frameAfter, FirstEmpty}
+use Rattle.log.proofs.Lives.{joins}
 use Rattle.log.proofs.Lent.{lent-same, lent-back}
-use Rattle.log.proofs.Units.{Inv, InvAt, at-set, asked-same}
+use Rattle.log.proofs.Units.{openAt, inputsLent, Inv, InvAt, none-open, not-open, at-set}
 
 -- so many zeros put into a range of the pool
 cleared-part : (at n : ℕ) (pool : List ℕ) → at + n ≤ length pool → part at n (cleared at n pool) ≡ zeros n
@@ -100,26 +101,30 @@ module _ (w : World) (l : List Entry) (i : Inv w l) (a : Addition) (user config 
       (length-put (w .unit .used .inputs) (a .«input_len») (zeros (a .«input_len»)) (lend (lent .inputs) (w .pools .inputs)))
 
   other-image : (s : ℕ) → occupied (w .unit) s
-      → inputImage (balance (w .unit) s) (cleared (w .unit .used .inputs) (a .«input_len») (lend (lent .inputs) (w .pools .inputs))) ≡ imageOf (slotLog s l)
+      → inputImage (balance (w .unit) s) (cleared (w .unit .used .inputs) (a .«input_len») (lend (lent .inputs) (w .pools .inputs))) ≡ inputImage (balance (w .unit) s) (inputsLent w)
   other-image s o =
       let p = balance (w .unit) s in
       part-put-other (w .unit .used .inputs) (a .«input_len») (zeros (a .«input_len»)) (lend (lent .inputs) (w .pools .inputs)) (p .ranges .inputs) (p .ranges .«input_len») (inl (i .valid .placed s o .inputEnd))
-      ∙ rw (lent-same (lent .inputs) (w .unit .parameters .«input_pool») (w .pools .inputs) pool-length) (i .images s o)
+      ∙ rw (lent-same (lent .inputs) (w .unit .parameters .«input_pool») (w .pools .inputs) pool-length) refl
+
+  not-new : eqb (w .unit .state .«open_kind») 0 ≡ false → w .unit .state .«open_slot» ≡ t → ⊥
+  not-new k e =
+      false≢true (sym was-empty ∙ subst (λ (s : ℕ). getD (w .unit .occupied) s false ≡ true) e (open-there (w .unit) (i .valid) k .there))
+
+  none-yet : openAt (w .unit .state) t ≡ none
+  none-yet =
+      by-test (eqb (w .unit .state .«open_kind») 0) (λ k. rw k (none-open (eqb t (w .unit .state .«open_slot»)))) (λ k. not-open (w .unit .state) t (λ e. not-new k (sym e)))
 
   pub inv-add : (n : ℕ) → let o = addStep true n (lengthsOf a user config) a (userOf a user) (configOf a config) lent w in Valid (o .world .unit) → InvAt (add a user config lent) (o .answer) (o .world) l
   unfolding t sizes
   inv-add n v =
-      let ps = w .unit .peripherals in
-      let notes : ℕ → List Note = λ s. slotLog s l in
-      let here = in-table in
-      let pool : List ℕ = cleared (w .unit .used .inputs) (a .«input_len») (lend (lent .inputs) (w .pools .inputs)) in
       record {
         valid = v;
         frame-is = ap (λ (f : Frame). frameAfter (add a user config lent) (added n (record { slot = t; address = a .address })) none f) (i .frame-is);
-        told = λ s u. at-set (λ (r : Peripheral) (x : List Note). Told (r .station) x) ps notes t _ (wasAdded (a .«input_len»)) here s (λ q. told-added (a .address) (a .«input_len») (slotLog t l)) (λ d. i .told s (old s u d));
-        link = λ e. let k = i .link e in record { aimed = k .aimed; kind = asked-same (eqb (w .unit .state .«open_slot») t) (wasAdded (a .«input_len»)) (slotLog (w .unit .state .«open_slot») l) refl ∙ k .kind };
-        images = λ s u.
-            at-set (λ (r : Peripheral) (x : List Note). inputImage r (lend (w .unit .parameters .«input_pool») (back (lent .inputs) pool (w .pools .inputs))) ≡ imageOf x) ps notes t _ (wasAdded (a .«input_len»)) here s
-            (λ q. rw inputs-after (cleared-part (w .unit .used .inputs) (a .«input_len») (lend (lent .inputs) (w .pools .inputs)) range-fits))
-            (λ d. rw inputs-after (other-image s (old s u d)));
+        aimed = i .aimed;
+        lives = λ s u.
+            rw inputs-after
+            (at-set _ (w .unit .state) (w .unit .peripherals) (cleared (w .unit .used .inputs) (a .«input_len») (lend (lent .inputs) (w .pools .inputs))) (λ s. slotLog s l) t _ (wasAdded (a .«input_len»)) in-table
+            (rw (none-yet, cleared-part (w .unit .used .inputs) (a .«input_len») (lend (lent .inputs) (w .pools .inputs)) range-fits) (joins (a .address) (optionsHeld (a .options) sizes) (rangesAt (w .unit .used) sizes) (slotLog t l))) s
+            (λ d. rw (other-image s (old s u d)) (i .lives s (old s u d))));
       }

@@ -8,7 +8,6 @@ use mathlib.Core.List.{List, []}
 use lib.ListN.{length}
 use denote.Ref.{now}
 use Rattle.parts.specs.Parts.{splice}
-use Rattle.fdl.specs.declared.parameters.Parameters.{Parameters}
 use Rattle.fdl.specs.declared.telegram.Telegram.{Telegram}
 use Rattle.peripheral_set.specs.declared.PeripheralHandle.{PeripheralHandle}
 use Rattle.cycle.specs.declared.state.OperatingState.{OperatingState}
@@ -26,10 +25,10 @@ use Rattle.master.specs.Turn.{Turned}
 use Rattle.master.specs.Reply.{Received}
 use Rattle.master.specs.Handle.{resetDone, wishDone}
 use Rattle.access.specs.Lookup.{inputNumber, outputNumber, inputsSeen, outputsSeen, OutputsWritten}
-use Rattle.log.specs.Calls.{World, Call, Outcome, Pools, lend, back, enter, hand, number, unitIs, outputsAre, step}
+use Rattle.log.specs.Calls.{World, Call, Outcome, lend, back, enter, hand, number, unitIs, outputsAre, step}
 use Rattle.log.specs.Words.{Entry, slotLog, imageOf}
 use Rattle.log.specs.Run.{Run, after, run}
-use Rattle.log.specs.Made.{Allowed, by-add, by-enter-state, by-enter-stop, by-enter-clear, by-enter-operate, by-transmit-telegram, by-receive-reply, by-reset-address, by-request-diagnostics, by-write-outputs, by-pi-q-mut, Handed, by-pi-i, Made, by-new, then}
+use Rattle.log.specs.Made.{by-add, by-enter-state, by-enter-stop, by-enter-clear, by-enter-operate, by-transmit-telegram, by-receive-reply, by-reset-address, by-request-diagnostics, by-write-outputs, by-pi-q-mut, Handed, by-pi-i, by-new, then}
 use Rattle.log.specs.Promises.{AllowedIsStep, MadeIsRun, ReadTold}
 use Rattle.log.proofs.Ties.{add-tied, enter-tied, turn-tied, reply-tied, reset-tied, wish-tied, write-tied, hand-tied}
 use Rattle.log.proofs.Units.{Inv}

@@ -2,6 +2,7 @@ pub mod Ties
 pub mod Functions
 pub mod Steps
 pub mod Wording
+pub mod Lives
 pub mod Stations
 pub mod Visits
 pub mod Lent
@@ -10,5 +11,8 @@ pub mod Adding
 pub mod Replying
 pub mod Turning
 pub mod Promised
+pub mod SlotFacts
+pub mod Running
+pub mod FrameBit
 pub mod Life
 pub mod Wrong

@@ -10,7 +10,7 @@ use native.Mathlib.Omega.{arith}
 use lib.ListN.{length, getD, replicate, length-replicate, getD-replicate, List·getD-eq-default}
 use lib.Dec.{T, eqb, ltb, leb}
 use lib.Pow.{pow-pos}
-use borrow.Author.Tests.{eqb-true, eq-eqb, ltb-true, ltb-false, lt-ltb}
+use borrow.Author.Tests.{eqb-true, ltb-true, ltb-false, lt-ltb}
 use Rattle.parts.proofs.Laws.{by-test, and-right, and-false}
 use Rattle.fdl.specs.declared.parameters.Parameters.{Parameters}
 use Rattle.fdl.specs.Params.{inRange, inForce, lowest}
@@ -30,13 +30,15 @@ use Rattle.log.specs.Calls.{Pools, World, lend, Call, add, enter, turn, 
 use Rattle.log.specs.Words.{Entry, turnOf, slotAsked, reportedOffline, slotLog, Frame, frameOf, occupiedIn, Moved, reached, dueOf, imageOf, asksData}
 use Rattle.log.specs.Run.{run}
 use Rattle.log.specs.Promises.{ImageTold, FrameTold, AskedTold, ReachedTold, Masked, MaskTold, FirstTold, NextTold, NeverOverlap}
-use Rattle.log.proofs.Wording.{ready, wording, due-wording}
+use Rattle.log.proofs.Wording.{is-true, ready, wording, due-wording}
 use Rattle.log.proofs.Steps.{turn-accepted, reply-accepted, refused-same, valid-step, always-valid}
-use Rattle.log.proofs.Units.{Inv, InvAt, inv-enter, inv-write, inv-hand, inv-wish, inv-reset}
+use Rattle.log.proofs.Lives.{Lives}
+use Rattle.log.proofs.Stations.{image}
+use Rattle.log.proofs.Units.{slotAt, Inv, InvAt, inv-enter, inv-write, inv-hand, inv-wish, inv-reset}
 use Rattle.log.proofs.Lent.{lent-same}
 use Rattle.log.proofs.Adding.{first-empty, inv-add}
 use Rattle.log.proofs.Replying.{reply-moves, inv-reply}
-use Rattle.log.proofs.Turning.{is-true, inv-turn, asked-reached, asked-step, mask-bits, mask-event}
+use Rattle.log.proofs.Turning.{inv-turn, asked-reached, asked-step, mask-bits, mask-event}
 
 -- ---- a fresh unit
 
@@ -51,9 +53,8 @@ inv-empty u pools v =
     record {
       valid = v;
       frame-is = refl;
-      told = λ s o. absurd (false≢true (sym (no-mark slots s) ∙ o));
-      link = λ e. absurd (false≢true (sym e));
-      images = λ s o. absurd (false≢true (sym (no-mark slots s) ∙ o));
+      aimed = λ e. absurd (false≢true (sym e));
+      lives = λ s o. absurd (false≢true (sym (no-mark slots s) ∙ o));
     }
 
 inv-fresh : (u : Parameters) (pools : Pools) → Valid (createdOf u .master) → Inv (record { unit = createdOf u .master; pools = pools }) []
@@ -109,10 +110,15 @@ inv-run u pools (c ∷ cs) = any-call (run u pools cs .world) (run u pools cs .l
 there : (w : World) (l : List Entry) (i : Inv w l) (s : ℕ) → T (occupiedIn l s) → occupied (w .unit) s
 there w l i s h = is-true _ (rw (← i .frame-is) at h)
 
+-- every slot that the log says is occupied lives
+pub lives-run : (u : Parameters) (pools : Pools) (cs : List Call) (s : ℕ) → T (occupiedIn (run u pools cs .log) s) → let w = run u pools cs .world in
+    Lives (w .unit .parameters .«max_retry_limit») (slotAt w s) (slotLog s (run u pools cs .log))
+lives-run u pools cs s h = let i = inv-run u pools cs in i .lives s (there (run u pools cs .world) (run u pools cs .log) i s h)
+
 -- ---- the promises
 
 pub image-told : ImageTold
-image-told u pools cs s h = let i = inv-run u pools cs in i .images s (there (run u pools cs .world) (run u pools cs .log) i s h)
+image-told u pools cs s h = image (lives-run u pools cs s h)
 
 pub frame-told : FrameTold
 frame-told u pools cs = inv-run u pools cs .frame-is
@@ -134,7 +140,7 @@ read-by w l i h n z =
     let lent = lend n (w .pools .inputs) in
     let q = both-hold (eqb (length lent) (w .unit .parameters .«input_pool»)) (isOccupied (w .unit .occupied) (h .slot)) z in
     let o = and-right (ltb (h .slot) slots) (getD (w .unit .occupied) (h .slot) false) (q .1) in
-    rw (z, found-there (w .unit) (i .valid) h o, lent-same n (w .unit .parameters .«input_pool») (w .pools .inputs) (eqb-true (length lent) (w .unit .parameters .«input_pool») (q .0))) (i .images (h .slot) o)
+    rw (z, found-there (w .unit) (i .valid) h o, lent-same n (w .unit .parameters .«input_pool») (w .pools .inputs) (eqb-true (length lent) (w .unit .parameters .«input_pool») (q .0))) (image (i .lives (h .slot) o))
 
 pub never-overlap : NeverOverlap
 never-overlap u pools cs s t h k d =

@@ -1,9 +1,9 @@
 -- An accepted reply keeps what holds of unit and log.
 -- The idea: it is from the slot that the newest turn asked; its balance hears it, its image is written where DataExchanged is reported, and no other changes.
-use mathlib.Core.Path.{_≡_, refl, sym, ap, _∙_, subst}
-use mathlib.Core.Bool.{Bool, true, false, not, false≢true}
-use mathlib.Core.List.{List, _∷_}
-use mathlib.Core.Option.{some}
+use mathlib.Core.Path.{_≡_, refl, sym, ap, _∙_}
+use mathlib.Core.Bool.{Bool, true, false, not, false≢true, cond}
+use mathlib.Core.List.{List}
+use mathlib.Core.Option.{some, none}
 use Prim.Native.Nat.{ℕ, _+_, _-_, _≤_, _<_}
 use native.Mathlib.Omega.{arith}
 use lib.ListN.{length, set}
@@ -24,19 +24,19 @@ use Rattle.cycle.specs.declared.state.DpMasterState.{DpMasterState}
 use Rattle.cycle.specs.Seen.{indexOf}
 use Rattle.cycle.specs.State.{answered}
 use Rattle.cycle.specs.Refusal.{unless, replyRefusal}
-use Rattle.cycle.proofs.Laws.{passed, after}
+use Rattle.cycle.proofs.Laws.{passed as gone, after}
 use Rattle.answers.specs.declared.reply.ReplyAnswer.{ReplyAnswer}
 use Rattle.master.specs.declared.unit.DpMaster.{DpMaster}
 use Rattle.master.specs.Unit.{stateIs, balancesAre}
 use Rattle.master.specs.Reply.{openBalance, replyAt}
-use Rattle.valid.specs.Valid.{Fits, Valid, balance, occupied}
+use Rattle.valid.specs.Valid.{Valid, balance, occupied}
 use Rattle.valid.proofs.Balances.{marked-below, open-there}
 use Rattle.log.specs.Calls.{World, lend, back, reply, replied, replyStep, replyNumber}
-use Rattle.log.specs.Words.{Entry, Note, got, target, Place, slotLog, placeNext, placeReplied, frameOf, occupiedIn, Moved, imageOf}
+use Rattle.log.specs.Words.{Entry, got, target, Place, slotLog, placeNext, placeReplied, frameOf, occupiedIn, Moved}
 use Rattle.log.specs.Promises.{frameIn}
-use Rattle.log.proofs.Stations.{Told, told-replied}
+use Rattle.log.proofs.Lives.{passed, replies}
 use Rattle.log.proofs.Lent.{lent-same, lent-back}
-use Rattle.log.proofs.Units.{Inv, InvAt, at-set}
+use Rattle.log.proofs.Units.{openKind, openAt, At, Inv, InvAt, none-open, at-set}
 
 two : _≡_ {A = ℕ} 2 0 → ⊥
 two e = omega arith
@@ -46,6 +46,9 @@ nine e = omega arith
 
 closes : (next : ℕ) (s : DpMasterState) → eqb (answered next s .«open_kind») 0 ≡ true
 closes next s = by-test (ltb next slots) (λ e. rw e refl) (λ e. rw e refl)
+
+closed : (s next : ℕ) (st : DpMasterState) → openAt (answered next st) s ≡ none
+closed s next st = by-test (ltb next slots) (λ e. rw e (none-open (eqb s 0))) (λ e. rw e (none-open (eqb s 0)))
 
 place-is : (next : ℕ) (s : DpMasterState) → _≡_ {A = Place} (record { slot = answered next s .slot; past = answered next s .completed }) (placeNext next)
 place-is next s = by-test (ltb next slots) (λ e. rw e refl) (λ e. rw e refl)
@@ -97,11 +100,11 @@ module _ (w : World) (l : List Entry) (i : Inv w l) (address : ℕ) (r : Telegra
   first-two = after (eqb (length (lend ni (w .pools .inputs))) (w .unit .parameters .«input_pool»)) 2 _ two z
 
   is-open : eqb (w .unit .state .«open_kind») 0 ≡ false
-  is-open = not-true _ (passed (not (eqb (w .unit .state .«open_kind») 0)) 9 _ nine (after (eqb (length (lend nd (w .pools .diags))) (w .unit .parameters .«diag_pool»)) 2 _ two first-two))
+  is-open = not-true _ (gone (not (eqb (w .unit .state .«open_kind») 0)) 9 _ nine (after (eqb (length (lend nd (w .pools .diags))) (w .unit .parameters .«diag_pool»)) 2 _ two first-two))
 
   pool-length : length (lend ni (w .pools .inputs)) ≡ w .unit .parameters .«input_pool»
   unfolding replyRefusal
-  pool-length = eqb-true _ _ (passed (eqb (length (lend ni (w .pools .inputs))) (w .unit .parameters .«input_pool»)) 2 _ two z)
+  pool-length = eqb-true _ _ (gone (eqb (length (lend ni (w .pools .inputs))) (w .unit .parameters .«input_pool»)) 2 _ two z)
 
   there : occupied (w .unit) (w .unit .state .«open_slot»)
   there = open-there (w .unit) (i .valid) is-open .there
@@ -110,7 +113,7 @@ module _ (w : World) (l : List Entry) (i : Inv w l) (address : ℕ) (r : Telegra
   below = marked-below (w .unit) (i .valid) (w .unit .state .«open_slot») there
 
   pub reply-moves : Moved l (placeReplied (frameOf l .marks) (target l) (frameOf l .place))
-  reply-moves = let k = i .link is-open .aimed in rw k (next-place l (w .unit .state .«open_slot») k below)
+  reply-moves = let k = i .aimed is-open in rw k (next-place l (w .unit .state .«open_slot») k below)
 
   index-is : indexOf (w .unit .state .«open_slot») ≡ w .unit .state .«open_slot»
   index-is = rw (lt-ltb (w .unit .state .«open_slot») slots below) refl
@@ -119,27 +122,28 @@ module _ (w : World) (l : List Entry) (i : Inv w l) (address : ℕ) (r : Telegra
   event : PeripheralEvent
   event = hearsOf r p payload pool (lend nd (w .pools .diags)) .event
 
-  own-image : (b : Bool) (e : PeripheralEvent) → isExchanged e ≡ b → (isExchanged e ≡ true → inputImage p (inputsOf e (carried r payload) p pool) ≡ carried r payload) → inputImage p pool ≡ imageOf (slotLog x l)
-      → inputImage p (inputsOf e (carried r payload) p pool) ≡ imageOf (got r payload e ∷ slotLog x l)
-  own-image true e q f h = f q ∙ rw q refl
-  own-image false e q f h = ap (inputImage p) (inputs-kept e (carried r payload) p pool q) ∙ h ∙ rw q refl
+  image-here : inputImage p (inputsOf event (carried r payload) p pool) ≡ cond (isExchanged event) (carried r payload) (inputImage p pool)
+  unfolding event
+  image-here =
+      by-test (isExchanged event) (λ e. exchanged-image r p payload pool (lend nd (w .pools .diags)) e ∙ rw e refl)
+      (λ e. ap (inputImage p) (inputs-kept event (carried r payload) p pool e) ∙ rw e refl)
 
-  seen-image : (s : ℕ) → occupied (w .unit) s → inputImage (balance (w .unit) s) pool ≡ imageOf (slotLog s l)
-  unfolding pool
-  seen-image s o = rw (lent-same ni (w .unit .parameters .«input_pool») (w .pools .inputs) pool-length) (i .images s o)
-
-  image-here : inputImage p (inputsOf event (carried r payload) p pool) ≡ imageOf (got r payload event ∷ slotLog x l)
-  unfolding event p x
-  image-here = own-image (isExchanged event) event refl (exchanged-image r p payload pool (lend nd (w .pools .diags))) (seen-image x there)
-
-  image-there : (s : ℕ) → occupied (w .unit) s → (s ≡ x → ⊥) → inputImage (balance (w .unit) s) (inputsOf event (carried r payload) p pool) ≡ imageOf (slotLog s l)
+  image-there : (s : ℕ) → occupied (w .unit) s → (s ≡ x → ⊥) → inputImage (balance (w .unit) s) (inputsOf event (carried r payload) p pool) ≡ inputImage (balance (w .unit) s) pool
   unfolding p x
-  image-there s o d =
-      inputs-other event (carried r payload) p pool (balance (w .unit) s .ranges .inputs) (balance (w .unit) s .ranges .«input_len») (i .valid .apart s x o there d .inputs) ∙ seen-image s o
+  image-there s o d = inputs-other event (carried r payload) p pool (balance (w .unit) s .ranges .inputs) (balance (w .unit) s .ranges .«input_len») (i .valid .apart s x o there d .inputs)
+
+  seen : (s : ℕ) → occupied (w .unit) s → At (w .unit .parameters .«max_retry_limit») (w .unit .state) (w .unit .peripherals) pool s (slotLog s l)
+  unfolding pool
+  seen s o = rw (lent-same ni (w .unit .parameters .«input_pool») (w .pools .inputs) pool-length) (i .lives s o)
 
   inputs-after : lend (w .unit .parameters .«input_pool») (back ni (inputsOf event (carried r payload) p pool) (w .pools .inputs)) ≡ inputsOf event (carried r payload) p pool
   unfolding pool
   inputs-after = lent-back ni (w .unit .parameters .«input_pool») (w .pools .inputs) pool-length _ (inputs-length event (carried r payload) p pool)
+
+  -- its request is open
+  asked-here : openAt (w .unit .state) x ≡ some (openKind (w .unit .state .«open_kind»))
+  unfolding x
+  asked-here = rw (eq-eqb (w .unit .state .«open_slot») (w .unit .state .«open_slot») refl, is-open) refl
 
   -- the reply at that slot
   inv-at : (a : ReplyAnswer) (diags : List ℕ) (next : ℕ) → a .event ≡ event → next ≡ nextAfter (w .unit .occupied) x
@@ -148,21 +152,16 @@ module _ (w : World) (l : List Entry) (i : Inv w l) (address : ℕ) (r : Telegra
       → InvAt (reply address r payload ni nd) (replied a) (record { unit = m; pools = record { setup = w .pools .setup; inputs = back ni (inputsOf event (carried r payload) p pool) (w .pools .inputs); outputs = w .pools .outputs; diags = diags } }) l
   unfolding event x p
   inv-at a diags next ea en v =
-      let k = i .link is-open in
-      let ps = w .unit .peripherals in
-      let notes : ℕ → List Note = λ s. slotLog s l in
-      let here : x < length ps = omega (arith, below, i .valid .table) in
+      let k = i .aimed is-open in
       record {
         valid = v;
-        frame-is = rw (mode-is next (w .unit .state), k .aimed, ← i .frame-is, en) (ap (λ (q : Place). record { mode = frameIn (w .unit) .mode; marks = w .unit .occupied; place = q }) (rw en at (place-is next (w .unit .state))));
-        told = λ s u.
-            rw (k .aimed, ea)
-            (at-set (λ (q : Peripheral) (n : List Note). Told (q .station) n) ps notes x _ (got r payload event) here s (λ e. told-replied r p payload pool (lend nd (w .pools .diags)) (slotLog x l) (subst (Fits (p .station)) (sym (k .kind)) (open-there (w .unit) (i .valid) is-open .fit)) (i .told x there)) (λ d. i .told s u));
-        link = λ c. absurd (false≢true (sym c ∙ closes next (w .unit .state)));
-        images = λ s u.
-            rw (k .aimed, ea)
-            (at-set (λ (q : Peripheral) (n : List Note). inputImage q (lend (w .unit .parameters .«input_pool») (back ni (inputsOf event (carried r payload) p pool) (w .pools .inputs))) ≡ imageOf n) ps notes x _ (got r payload event) here s
-            (λ e. rw inputs-after image-here) (λ d. rw inputs-after (image-there s u d)));
+        frame-is = rw (mode-is next (w .unit .state), k, ← i .frame-is, en) (ap (λ (q : Place). record { mode = frameIn (w .unit) .mode; marks = w .unit .occupied; place = q }) (rw en at (place-is next (w .unit .state))));
+        aimed = λ c. absurd (false≢true (sym c ∙ closes next (w .unit .state)));
+        lives = λ s u.
+            rw (k, ea, inputs-after)
+            (at-set _ (answered next (w .unit .state)) (w .unit .peripherals) (inputsOf event (carried r payload) p pool) (λ s. slotLog s l) x _ (got r payload event) (omega (arith, below, i .valid .table))
+            (rw (closed x next (w .unit .state), image-here) (replies (seen x there) asked-here r payload pool (lend nd (w .pools .diags)))) s
+            (λ d. rw (closed s next (w .unit .state), image-there s u d) (passed (seen s u))));
       }
 
   pub inv-reply : (n : ℕ) → let o = replyStep true n (replyAt r (w .unit) payload (lend ni (w .pools .inputs)) (lend nd (w .pools .diags))) r payload ni nd w in

@@ -3,14 +3,13 @@
 use mathlib.Core.Path.{_≡_, refl, sym, _∙_, subst}
 use Prim.Native.Nat.{ℕ, _+_, _≤_}
 use native.Mathlib.Omega.{arith}
-use mathlib.Core.Bool.{Bool, true, false, false≢true, cond}
+use mathlib.Core.Bool.{Bool, true, false, cond}
 use mathlib.Core.List.{List, [], _∷_}
 use lib.ListN.{length}
 use lib.Dec.{eqb}
 use Rattle.parts.specs.Parts.{inside, part, splice, roomFor, putIn}
 use Rattle.parts.proofs.Laws.{by-test, inside-yes, length-part, room-yes, room-outside, put-done, put-kept, part-put}
 use Rattle.peripheral.specs.Record.{outputImage}
-use Rattle.peripheral_set.specs.Marks.{isOccupied}
 use Rattle.valid.specs.Valid.{Valid, balance, occupied}
 use Rattle.fdl.specs.declared.telegram.Telegram.{Telegram}
 use Rattle.peripheral_set.specs.declared.PeripheralHandle.{PeripheralHandle}

@@ -4,26 +4,24 @@ use mathlib.Core.Path.{_≡_, refl, sym, ap, _∙_, subst}
 use mathlib.Core.Bool.{Bool, true, false, not, _&&_, _||_, false≢true, cond}
 use mathlib.Core.Logic.{_⊎_, ⊎-elim}
 use mathlib.Core.List.{List, _∷_}
-use mathlib.Core.Option.{Option, none, some, Option·none-ne-some}
-use Prim.Native.Nat.{ℕ, _-_, _≤_, _<_}
+use mathlib.Core.Option.{Option, none, some, Option·none-ne-some, Option·some-injective}
+use Prim.Native.Nat.{ℕ, _≤_, _-_, _<_}
 use native.Mathlib.Omega.{arith}
 use lib.ListN.{getD}
-use lib.Dec.{T, eqb, ltb, leb}
-use borrow.Author.Tests.{eqb-true, eq-eqb, ne-eqb, lt-leb, lt-ltb}
+use lib.Dec.{T, eqb, leb, ltb}
+use borrow.Author.Tests.{eqb-true, eq-eqb, lt-ltb, ne-eqb, lt-leb}
 use Rattle.parts.proofs.Laws.{by-test, and-false}
 use Rattle.fdl.specs.declared.parameters.Parameters.{Parameters}
 use Rattle.payloads.specs.declared.request.Request.{Request}
 use Rattle.payloads.specs.declared.request.Request.the-variants.{Diagnosis, Parameters as ParameterRequest, Configuration, Data}
-use Rattle.payloads.specs.Request.{kindNumber}
 use Rattle.station.specs.declared.visit.Visited.{Visited}
 use Rattle.station.specs.declared.visit.Visited.the-variants.{Sends, Drops, Skips}
 use Rattle.station.specs.declared.state.PeripheralEvent.the-variants.{NoEvent, Offline as WentOffline}
-use Rattle.station.specs.State.{stateOf}
 use Rattle.station.specs.Visit.{visitedOf}
 use Rattle.station.proofs.Visits.{falls, wish-falls, asksData as wantsData}
 use Rattle.peripheral.specs.declared.record.Peripheral.{Peripheral}
 use Rattle.peripheral.specs.Record.{blank, stationIs, inputImage}
-use Rattle.peripheral.specs.Visit.{wishesOf}
+use Rattle.peripheral.specs.Visit.{wishesOf, visitedBy}
 use Rattle.peripheral_set.specs.Marks.{slots}
 use Rattle.cycle.specs.declared.seen.Seen.{Seen}
 use Rattle.cycle.specs.declared.seen.Sent.{Sent}
@@ -34,21 +32,22 @@ use Rattle.cycle.specs.declared.state.OperatingState.the-variants.{Stop, Clear,
 use Rattle.cycle.specs.declared.state.Step.{Step}
 use Rattle.cycle.specs.declared.state.Step.the-variants.{Halt, Control, Back, Visits}
 use Rattle.cycle.specs.Seen.{nothingSeen, idle}
-use Rattle.cycle.specs.State.{operatingOf, controlDue, stepOf, startOf, afterTurn}
-use Rattle.answers.specs.Turn.{transmissionOf, visitsTransmit, completesOf, fellEvent, handleOf}
-use Rattle.master.specs.declared.unit.DpMaster.{DpMaster}
-use Rattle.master.specs.Turn.{sweepFrom, stepAt, sweptBy, unitTurned, askedIn, turnAnswer}
 use Rattle.master.specs.Unit.{stateIs, balancesAre, balanceAt}
 use Rattle.master.proofs.Bits.{bit, zero-bit}
-use Rattle.valid.specs.Valid.{Valid, balance, occupied}
-use Rattle.valid.proofs.Balances.{marked-below, open-there}
-use Rattle.log.specs.Calls.{World, lend, turn, turned, unitIs, step}
-use Rattle.log.specs.Words.{Entry, Note, wentOffline, asked, Place, target, isOffline, bitSet, reportedOffline, noteAsked, slotLog, placeTurned, slotAsked, upTo, reached, isKind, lastAsked, dueOf, imageOf, asksData}
+use Rattle.valid.proofs.Balances.{marked-below}
+use Rattle.log.specs.Words.{slotAsked, upTo, reached, Entry, Note, wentOffline, asked, Place, target, isOffline, bitSet, reportedOffline, noteAsked, slotLog, placeTurned, isKind, dueOf, asksData}
 use Rattle.log.specs.Promises.{MaskEvent}
-use Rattle.log.proofs.Wording.{ready}
-use Rattle.log.proofs.Stations.{Told, askedNumber, visitNote, told-visited, asked-when}
-use Rattle.log.proofs.Visits.{kindSent, wentTo, kindOf, Swung, all-visits, Lowest, Firsts, all-first, empty-bit}
-use Rattle.log.proofs.Units.{Link, Inv, InvAt}
+use Rattle.payloads.specs.Request.{kindNumber}
+use Rattle.log.proofs.Visits.{kindSent, wentTo, Swung, all-visits, Lowest, Firsts, all-first, empty-bit}
+use Rattle.cycle.specs.State.{operatingOf, controlDue, stepOf, startOf, afterVisits, afterTurn}
+use Rattle.answers.specs.Turn.{transmissionOf, visitsTransmit, completesOf, fellEvent, handleOf}
+use Rattle.master.specs.Turn.{sweepFrom, stepAt, sweptBy, unitTurned, askedIn, turnAnswer}
+use Rattle.valid.specs.Valid.{Valid, balance, occupied}
+use Rattle.log.specs.Calls.{World, turn, turned, unitIs, step}
+use Rattle.log.proofs.Wording.{is-true, ready}
+use Rattle.log.proofs.Lives.{visitNote, kindOf, slotOf, Lives, lives-visited, passed}
+use Rattle.log.proofs.Stations.{told, asked-when}
+use Rattle.log.proofs.Units.{openAt, At, inputsLent, none-open, Inv, InvAt}
 
 -- ---- what an answer says of slot s
 
@@ -89,10 +88,6 @@ address-kept false v p = refl
 address-kept true (Sends k) p = refl
 address-kept true Drops p = refl
 address-kept true Skips p = refl
-
-pub is-true : (b : Bool) → T b → b ≡ true
-is-true true h = refl
-is-true false h = absurd h
 
 one-or-none : (b : Bool) → eqb (cond b 1 0) 1 ≡ b
 one-or-none true = refl
@@ -139,43 +134,36 @@ mode-kept Visits (To t k) time s = refl
 
 -- ---- one slot
 
-module _ (v : Visited) (p q : Peripheral) (l : List Note) where
-  -- its station and its notes
-  told-by : (b : Bool) → q ≡ cond b (stationIs (visitedOf v (p .station)) p) p → Told (p .station) l
-      → Told (q .station) (cond (b && falls v) (wentOffline ∷ l) (noteKind (cond b (kindOf v) none) l))
-  told-by false e i = rw e i
-  told-by true e i = rw e (by-visit v (told-visited v (p .station) l i))
-    where
-      by-visit : (v : Visited) → Told (visitedOf v (p .station)) (visitNote v l) → Told (visitedOf v (p .station)) (cond (falls v) (wentOffline ∷ l) (noteKind (kindOf v) l))
-      by-visit (Sends k) t = t
-      by-visit Drops t = t
-      by-visit Skips t = t
+note-is : (v : Visited) (l : List Note) → cond (falls v) (wentOffline ∷ l) (noteKind (kindOf v) l) ≡ visitNote v l
+note-is (Sends k) l = refl
+note-is Drops l = refl
+note-is Skips l = refl
 
-  -- its image
-  image-by : (b : Bool) (inputs : List ℕ) → q ≡ cond b (stationIs (visitedOf v (p .station)) p) p → inputImage p inputs ≡ imageOf l
-      → inputImage q inputs ≡ imageOf (cond (b && falls v) (wentOffline ∷ l) (noteKind (cond b (kindOf v) none) l))
-  image-by false inputs e i = rw e i
-  image-by true inputs e i = rw e (i ∙ by-visit v)
-    where
-      by-visit : (v : Visited) → imageOf l ≡ imageOf (cond (falls v) (wentOffline ∷ l) (noteKind (kindOf v) l))
-      by-visit (Sends k) = refl
-      by-visit Drops = refl
-      by-visit Skips = refl
+-- visited or passed
+lives-by : (limit : ℕ) (p q : Peripheral) (pool : List ℕ) (l : List Note) (k o : Option Request) (b : Bool) → q ≡ cond b (visitedBy limit p) p → o ≡ cond b (kindOf (wishesOf limit p)) none
+    → Lives limit (slotOf k p (inputImage p pool)) l → Lives limit (slotOf o q (inputImage q pool)) (cond (b && falls (wishesOf limit p)) (wentOffline ∷ l) (noteKind (cond b (kindOf (wishesOf limit p)) none) l))
+lives-by limit p q pool l k o true e z i = rw (e, z, note-is (wishesOf limit p) l) (lives-visited i)
+lives-by limit p q pool l k o false e z i = rw (e, z) (passed i)
 
-  -- the request that went to it
-  kind-by : (b : Bool) (k : Request) → some k ≡ cond b (kindOf v) none → askedNumber (lastAsked (cond (b && falls v) (wentOffline ∷ l) (noteKind (cond b (kindOf v) none) l))) ≡ kindNumber k
-  kind-by false k z = absurd (Option·none-ne-some k (sym z))
-  kind-by true k z = by-visit v z
-    where
-      by-visit : (v : Visited) → some k ≡ kindOf v → askedNumber (lastAsked (cond (falls v) (wentOffline ∷ l) (noteKind (kindOf v) l))) ≡ kindNumber k
-      by-visit (Sends r) z = ap askedNumber (sym z)
-      by-visit Drops z = absurd (Option·none-ne-some k (sym z))
-      by-visit Skips z = absurd (Option·none-ne-some k (sym z))
+-- a visit that sent
+sent-is : (v : Visited) (p : Peripheral) (k : Request) (b : Bool) → cond b (kindOf v) none ≡ some k → cond b (stationIs (visitedOf v (p .station)) p) p ≡ stationIs (visitedOf (Sends k) (p .station)) p
+sent-is (Sends q) p k true e = ap (λ (r : Request). stationIs (visitedOf (Sends r) (p .station)) p) (Option·some-injective q k e)
+sent-is Drops p k true e = absurd (Option·none-ne-some k e)
+sent-is Skips p k true e = absurd (Option·none-ne-some k e)
+sent-is v p k false e = absurd (Option·none-ne-some k e)
+
+-- the request that is open afterwards
+sent-open : (sent : Sent) (time : ℕ) (st : DpMasterState) (s : ℕ) → openAt (afterVisits sent time st) s ≡ kindSent s sent
+sent-open Nobody time st s = none-open (eqb s 0)
+sent-open (To t Diagnosis) time st s = refl
+sent-open (To t ParameterRequest) time st s = refl
+sent-open (To t Configuration) time st s = refl
+sent-open (To t Data) time st s = refl
 
 -- ---- the turn
 
 module _ (w : World) (l : List Entry) (i : Inv w l) where
-  swung : (step : Step) (s : ℕ) → occupied (w .unit) s → Swung (w .unit .parameters .«max_retry_limit») (startOf step (w .unit .state)) s (balance (w .unit) s) (sweptBy step (w .unit))
+  pub swung : (step : Step) (s : ℕ) → occupied (w .unit) s → Swung (w .unit .parameters .«max_retry_limit») (startOf step (w .unit .state)) s (balance (w .unit) s) (sweptBy step (w .unit))
   unfolding sweptBy
   swung step s o =
       let h = marked-below (w .unit) (i .valid) s o in
@@ -219,7 +207,13 @@ module _ (w : World) (l : List Entry) (i : Inv w l) where
         ≡ cond (swung step s o .visited && falls (wishesOf (w .unit .parameters .«max_retry_limit») (balance (w .unit) s))) (wentOffline ∷ n) (noteKind (cond (swung step s o .visited) (kindOf (wishesOf (w .unit .parameters .«max_retry_limit») (balance (w .unit) s))) none) n)
     notes-are s o n = rw (reported s o) (ap (λ (y : List Note). cond (swung step s o .visited && falls (wishesOf (w .unit .parameters .«max_retry_limit») (balance (w .unit) s))) (wentOffline ∷ n) y) (sent-noted s o n))
 
-  -- the request that the turn opened
+  steps-open : (step : Step) (time s : ℕ) → openAt (afterTurn step (sweptBy step (w .unit) .seen .sent) time (w .unit .state)) s ≡ kindSent s (sweptBy step (w .unit) .seen .sent)
+  unfolding sweptBy sweepFrom
+  steps-open Halt time s = none-open (eqb s 0)
+  steps-open Control time s = none-open (eqb s 0)
+  steps-open Back time s = none-open (eqb s 0)
+  steps-open Visits time s = sent-open (sweptBy Visits (w .unit) .seen .sent) time (w .unit .state) s
+
   kind-here : (t : ℕ) (k : Request) (sent : Sent) (r : Option Request) → sent ≡ To t k → kindSent t sent ≡ r → some k ≡ r
   kind-here t k sent r e q = sym (subst (λ (y : Sent). kindSent t y ≡ some k) (sym e) (rw (eq-eqb t t refl) refl)) ∙ q
 
@@ -227,31 +221,17 @@ module _ (w : World) (l : List Entry) (i : Inv w l) where
     entry : Step → Entry
     entry step = record { call = turn time high ns nq buf; answer = turned (turnAnswer step (sweptBy step (w .unit)) (w .unit) payload buf) out }
 
-    link-open : (t : ℕ) (k : Request) → sweptBy Visits (w .unit) .seen .sent ≡ To t k → occupied (w .unit) t
-        → askedNumber (lastAsked (slotLog t (entry Visits ∷ l))) ≡ kindNumber k
-    unfolding entry
-    link-open t k e o =
-        let p = balance (w .unit) t in
-        let x = swung Visits t o in
-        ap (λ (y : List Note). askedNumber (lastAsked y)) (notes-are Visits payload buf t o (slotLog t l))
-        ∙ kind-by (wishesOf (w .unit .parameters .«max_retry_limit») p) p p (slotLog t l) (x .visited) k (kind-here t k (sweptBy Visits (w .unit) .seen .sent) _ e (x .kind))
-
     target-open : (t : ℕ) (k : Request) → sweptBy Visits (w .unit) .seen .sent ≡ To t k → target (entry Visits ∷ l) ≡ some t
     unfolding entry turnAnswer
     target-open t k e = rw e refl
 
-    link-turn : (step : Step) (sent : Sent) → sweptBy step (w .unit) .seen .sent ≡ sent
-        → let m : DpMaster = stateIs (afterTurn step sent time (w .unit .state)) (balancesAre (sweptBy step (w .unit) .balances) (w .unit)) in
-        Valid m → eqb (m .state .«open_kind») 0 ≡ false → Link m (entry step ∷ l)
-    link-turn Halt sent e v c = absurd (false≢true (sym c))
-    link-turn Control sent e v c = absurd (false≢true (sym c))
-    link-turn Back sent e v c = absurd (false≢true (sym c))
-    link-turn Visits Nobody e v c = absurd (false≢true (sym c))
-    link-turn Visits (To t k) e v c =
-        record {
-          aimed = target-open t k e;
-          kind = link-open t k e (open-there _ v c .there);
-        }
+    aimed-turn : (step : Step) (sent : Sent) → sweptBy step (w .unit) .seen .sent ≡ sent → let st = afterTurn step sent time (w .unit .state) in
+        eqb (st .«open_kind») 0 ≡ false → target (entry step ∷ l) ≡ some (st .«open_slot»)
+    aimed-turn Halt sent e c = absurd (false≢true (sym c))
+    aimed-turn Control sent e c = absurd (false≢true (sym c))
+    aimed-turn Back sent e c = absurd (false≢true (sym c))
+    aimed-turn Visits Nobody e c = absurd (false≢true (sym c))
+    aimed-turn Visits (To t k) e c = target-open t k e
 
     pub inv-turn : let step = stepAt time high (w .unit) in
         Valid (unitTurned step (sweptBy step (w .unit)) time (w .unit))
@@ -266,16 +246,11 @@ module _ (w : World) (l : List Entry) (i : Inv w l) where
               rw (← i .frame-is, mode-kept step (x .seen .sent) time (w .unit .state))
               (ap (λ (q : Place). record { mode = operatingOf (w .unit .state .operating); marks = w .unit .occupied; place = q })
               (place-turned (operatingOf (w .unit .state .operating)) (controlDue time high (w .unit .parameters .«slot_time») (w .unit .state)) (w .unit .state .completed) (x .seen .sent) (askedIn x) (w .unit .parameters) time (w .unit .state)));
-          told = λ s u.
-              let p = balance (w .unit) s in
-              subst (Told (getD (x .balances) s blank .station)) (sym (notes-are step payload buf s u (slotLog s l)))
-              (told-by (wishesOf (w .unit .parameters .«max_retry_limit») p) p (getD (x .balances) s blank) (slotLog s l) (swung step s u .visited) (swung step s u .balance) (i .told s u));
-          link = λ c. link-turn step (x .seen .sent) refl v c;
-          images = λ s u.
-              let p = balance (w .unit) s in
-              let pool : List ℕ = lend (w .unit .parameters .«input_pool») (w .pools .inputs) in
-              image-by (wishesOf (w .unit .parameters .«max_retry_limit») p) p (getD (x .balances) s blank) (slotLog s l) (swung step s u .visited) pool (swung step s u .balance) (i .images s u)
-              ∙ ap imageOf (sym (notes-are step payload buf s u (slotLog s l)));
+          aimed = aimed-turn step (x .seen .sent) refl;
+          lives = λ s u.
+              subst (At (w .unit .parameters .«max_retry_limit») (afterTurn step (x .seen .sent) time (w .unit .state)) (x .balances) (inputsLent w) s) (sym (notes-are step payload buf s u (slotLog s l)))
+              (lives-by (w .unit .parameters .«max_retry_limit») (balance (w .unit) s) (getD (x .balances) s blank) (inputsLent w) (slotLog s l) (openAt (w .unit .state) s) _ (swung step s u .visited) (swung step s u .balance)
+              (steps-open step time s ∙ swung step s u .kind) (i .lives s u));
         }
 
   -- ---- reached is visited
@@ -315,6 +290,10 @@ module _ (w : World) (l : List Entry) (i : Inv w l) where
   is-kind Configuration e = omega arith
   is-kind Data e = omega arith
 
+  -- the slot that is asked is occupied
+  pub sent-there : (ps : List Peripheral) (time t : ℕ) (k : Request) → Valid (stateIs (afterTurn Visits (To t k) time (w .unit .state)) (balancesAre ps (w .unit))) → occupied (w .unit) t
+  sent-there ps time t k v = ⊎-elim (λ c. absurd (is-kind k (c .kind))) (λ o. o .there) (v .standing .request)
+
   pub asked-reached : (step : Step) (payload buf : List ℕ) (time s : ℕ) → Valid (unitTurned step (sweptBy step (w .unit)) time (w .unit)) → let a = turnAnswer step (sweptBy step (w .unit)) (w .unit) payload buf in
       slotAsked (a .transmission) ≡ some s → reached l a s ≡ true
   unfolding turnAnswer
@@ -328,8 +307,17 @@ module _ (w : World) (l : List Entry) (i : Inv w l) where
       by-sent Nobody e q v = absurd (Option·none-ne-some s q)
       by-sent (To t k) e q v =
           let z : t ≡ s = cc in
-          let o : occupied (w .unit) t = ⊎-elim (λ c. absurd (is-kind k (c .kind))) (λ o. o .there) (v .standing .request) in
-          reached-asked Visits payload buf s k (subst (occupied (w .unit)) z o) (rw z at e)
+          reached-asked Visits payload buf s k (subst (occupied (w .unit)) z (sent-there _ time t k v)) (rw z at e)
+
+  -- ---- the balance that is asked: after its own visit, which sent
+
+  pub asked-is : (t : ℕ) (k : Request) → let x = sweptBy Visits (w .unit) in
+      x .seen .sent ≡ To t k → occupied (w .unit) t → askedIn x ≡ stationIs (visitedOf (Sends k) (balance (w .unit) t .station)) (balance (w .unit) t)
+  asked-is t k e o =
+      let x = sweptBy Visits (w .unit) in
+      let y = swung Visits t o in
+      let v = wishesOf (w .unit .parameters .«max_retry_limit») (balance (w .unit) t) in
+      rw (e, lt-ltb t slots (marked-below (w .unit) (i .valid) t o)) (y .balance ∙ sent-is v (balance (w .unit) t) k (y .visited) (sym (rw (e, eq-eqb t t refl) at (y .kind))))
 
   -- ---- asked for data
 
@@ -363,7 +351,7 @@ module _ (w : World) (l : List Entry) (i : Inv w l) where
           let v = wishesOf (w .unit .parameters .«max_retry_limit») p in
           let up : falls v ≡ false = not-fell (x .visited) (falls v) _ vis (reported Visits payload buf s o) t in
           visits-asked (y .seen .sent) (askedIn y) (w .unit .parameters) s ∙ ap (isKind Data) (rw vis at (x .kind)) ∙ wants-is v
-          ∙ asked-when (w .unit .parameters .«max_retry_limit») (p .options .«has_user_parameters») (p .options .«has_config») (p .station) (slotLog s l) (i .told s o) up
+          ∙ asked-when (w .unit .parameters .«max_retry_limit») (p .options .«has_user_parameters») (p .options .«has_config») (p .station) (slotLog s l) (told (i .lives s o)) up
 
   -- ---- the mask
 

@@ -30,6 +30,7 @@ use Rattle.cycle.specs.Seen.{bitAt, nothingSeen, seenBy, idle}
 use Rattle.master.specs.Turn.{Swept, sweepFrom}
 use Rattle.master.proofs.Bits.{bit, or-bit, pow-bit-same, pow-bit-below, pow-bit-above, zero-bit}
 use Rattle.master.proofs.Sweep.{sweep-skip, sweep-visit, sweep-stopped}
+use Rattle.log.proofs.Lives.{kindOf}
 
 -- the request that went to slot s
 abbrev pub kindSent : ℕ → Sent → Option Request
@@ -40,11 +41,6 @@ kindSent s (To t k) = cond (eqb s t) (some k) none
 abbrev pub wentTo : ℕ → Sent → Bool
 wentTo s Nobody = true
 wentTo s (To t k) = leb s t
-
-abbrev pub kindOf : Visited → Option Request
-kindOf (Sends k) = some k
-kindOf Drops = none
-kindOf Skips = none
 
 idle-is : (x : Sent) → idle x ≡ true → x ≡ Nobody
 idle-is Nobody e = refl

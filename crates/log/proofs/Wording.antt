@@ -1,5 +1,6 @@
 -- The wordings by positions and the walks from the oldest note say the same.
 -- The idea: a walk gains one note at a time, and each position moves on by one.
+use mathlib.Core.Path.{_≡_, refl}
 use mathlib.Core.Logic.{_↔_, _⊎_, inl, inr}
 use Prim.Native.Nat.{ℕ, zero, suc, _≤_, _<_}
 use native.Mathlib.Nat.{le-of-suc-le-suc, not-suc-le-zero}
@@ -41,19 +42,23 @@ pub and-r : (a b : Bool) → T (a && b) → T b
 and-r true b h = h
 and-r false b h = absurd h
 
+pub is-true : (b : Bool) → T b → b ≡ true
+is-true true h = refl
+is-true false h = absurd h
+
 pub and-i : (a b : Bool) → T a → T b → T (a && b)
 and-i true b x y = y
 and-i false b x y = x
 
-or-e : (a b : Bool) → T (a || b) → T a ⊎ T b
+pub or-e : (a b : Bool) → T (a || b) → T a ⊎ T b
 or-e true b h = inl tt
 or-e false b h = inr h
 
-or-l : (a b : Bool) → T a → T (a || b)
+pub or-l : (a b : Bool) → T a → T (a || b)
 or-l true b h = tt
 or-l false b h = absurd h
 
-or-r : (a b : Bool) → T b → T (a || b)
+pub or-r : (a b : Bool) → T b → T (a || b)
 or-r true b h = tt
 or-r false b h = h
 

@@ -9,16 +9,13 @@ use lib.Dec.{T, ltb, eqb, eqb→eq}
 use borrow.Author.Tests.{ltb-false, eqb-true, eqb-false}
 use Rattle.parts.proofs.Laws.{by-test}
 use Rattle.fdl.specs.Bits.{cycled, bitNumber, bitOf}
-use Rattle.fdl.specs.Reply.{statusOf}
-use Rattle.fdl.specs.declared.telegram.ResponseStatus.{ResponseStatus}
-use Rattle.fdl.specs.declared.telegram.ResponseStatus.the-variants.{Ok, SapNotEnabled, DataLow, DataHigh, Other, Unusable}
 use Rattle.fdl.specs.declared.telegram.Telegram.{Telegram}
-use Rattle.fdl.specs.declared.telegram.Telegram.the-variants.{ShortConfirmation, Data, Token, Request}
-use Rattle.payloads.specs.declared.request.Request.the-variants.{Diagnosis, Data as DataRequest}
+use Rattle.payloads.specs.declared.request.Request.{Request}
+use Rattle.payloads.specs.declared.request.Request.the-variants.{Diagnosis, Data}
 use Rattle.payloads.specs.Request.{kindNumber}
-use Rattle.payloads.specs.Diagnosis.{flag}
 use Rattle.payloads.specs.declared.diagnosis.DiagnosticsInfo.{DiagnosticsInfo}
 use Rattle.station.specs.declared.record.Station.{Station}
+use Rattle.station.specs.declared.reply.Heard.{Heard}
 use Rattle.station.specs.declared.state.PeripheralState.{PeripheralState}
 use Rattle.station.specs.declared.state.PeripheralState.the-variants.{Offline, WaitForParam, WaitForConfig, ValidateConfig, PreDataExchange, DataExchange}
 use Rattle.station.specs.declared.visit.Visited.{Visited}
@@ -26,8 +23,9 @@ use Rattle.station.specs.declared.visit.Visited.the-variants.{Sends, Drops, Ski
 use Rattle.station.specs.State.{numberOf, stateOf}
 use Rattle.station.specs.Record.{newStation, inState, counting, cycling, dueIs, oneMore, tookOf}
 use Rattle.station.specs.Visit.{wishIn, wishOf, visitedOf}
-use Rattle.station.specs.Reply.{foundOf, acknowledgedOf, isShort, byFlags, validatedOf, diagnosedOf, exchangedOf, statusReply, dataReply, exchangeOf, heardIn, heardOf}
+use Rattle.station.specs.Reply.{heardOf}
 use Rattle.station.proofs.Visits.{falls, wish-falls}
+use Rattle.station.proofs.Rows.{Row, found, unfound, parameters, no-parameters, configuration, no-configuration, bad-parameters, bad-config, wants-parameters, not-ready, configured, unvalidated, diagnosed, undiagnosed, diagnosed-late, undiagnosed-late, exchanged, unused, denied, diagnosis-row, parameters-row, configuration-row, data-row}
 use Rattle.valid.specs.Valid.{Sound, fits}
 
 -- ---- the numbers
@@ -128,8 +126,8 @@ module _ (k : ℕ) (due : Bool) where
   fits-due WaitForParam h = h
   fits-due WaitForConfig h = h
   fits-due ValidateConfig h = h
-  fits-due PreDataExchange h = or-due (eqb k (kindNumber DataRequest)) (eqb k (kindNumber Diagnosis)) h
-  fits-due DataExchange h = or-due (eqb k (kindNumber DataRequest)) (eqb k (kindNumber Diagnosis)) h
+  fits-due PreDataExchange h = or-due (eqb k (kindNumber Data)) (eqb k (kindNumber Diagnosis)) h
+  fits-due DataExchange h = or-due (eqb k (kindNumber Data)) (eqb k (kindNumber Diagnosis)) h
 
   -- its number is one of 1 to 4
   or-kind : T (eqb k 4 || (eqb k 1 && due)) → (1 ≤ k) × (k ≤ 4)
@@ -161,62 +159,46 @@ pub address-steady : (a : ℕ) → Steady (λ s. s .address ≡ a)
 address-steady a = record { at-ok = λ x s g. g; zero-ok = λ s g. g; cycling-ok = λ s g. g; due-ok = λ b s g. g }
 
 -- is kept by the reply; q is the station with the diagnosis taken
-module _ (P : Station → Type 0) (c : Steady P) where
-  flags-keep : (f : ℕ) (s : Station) → P s → P (byFlags f s .station)
-  unfolding byFlags
-  flags-keep f s g =
-      by-test (flag 0x0040 f) (λ a. rw a (c .at-ok Offline s g))
-      (λ a. by-test (flag 0x0004 f) (λ b. rw (a, b) (c .at-ok Offline s g))
-      (λ b. by-test (flag 0x0100 f) (λ d. rw (a, b, d) (c .at-ok WaitForParam s g))
-      (λ d. by-test (flag 0x0002 f) (λ e. rw (a, b, d, e) g) (λ e. rw (a, b, d, e) (c .at-ok PreDataExchange s g)))))
+module _ (P : Station → Type 0) (c : Steady P) (q s : Station) (gq : P q) (g : P s) where
+  offline : P (inState Offline (counting 0 q))
+  offline = c .at-ok Offline (counting 0 q) (c .zero-ok q gq)
 
-  exchanged-keeps : (b : Bool) (s : Station) → P s → P (exchangedOf b s .station)
-  exchanged-keeps true s g = c .at-ok DataExchange s g
-  exchanged-keeps false s g = g
+  wants : P (inState WaitForParam (counting 0 q))
+  wants = c .at-ok WaitForParam (counting 0 q) (c .zero-ok q gq)
 
-  status-keeps : (x : ResponseStatus) (fits : Bool) (s : Station) → P s → P (statusReply x fits s .station)
-  status-keeps Ok fits s g = exchanged-keeps fits s g
-  status-keeps SapNotEnabled fits s g = c .at-ok ValidateConfig s g
-  status-keeps DataLow fits s g = exchanged-keeps fits s g
-  status-keeps DataHigh fits s g = exchanged-keeps fits (dueIs true s) (c .due-ok true s g)
-  status-keeps Other fits s g = g
-  status-keeps Unusable fits s g = g
+  counted : P (counting 0 (cycling s))
+  counted = c .zero-ok (cycling s) (c .cycling-ok s g)
 
-  data-keeps : (t : Telegram) (empty fits : Bool) (s : Station) → P s → P (dataReply t empty fits s .station)
-  data-keeps ShortConfirmation empty fits s g = exchanged-keeps empty s g
-  data-keeps (Data dsap ssap status) empty fits s g = status-keeps (statusOf status) fits s g
-  data-keeps Token empty fits s g = g
-  data-keeps Request empty fits s g = g
+  row-keeps : {t : Telegram} {took three ten : Bool} {k : Request} {h : Heard} → Row s q t took three ten k h → P (h .station)
+  row-keeps (found x e) = wants
+  row-keeps (unfound x e) = g
+  row-keeps (parameters x e) = c .at-ok WaitForConfig (counting 0 (cycling s)) counted
+  row-keeps (no-parameters x e) = g
+  row-keeps (configuration x e) = c .at-ok ValidateConfig (counting 0 (cycling s)) counted
+  row-keeps (no-configuration x e) = g
+  row-keeps (bad-parameters x e a) = offline
+  row-keeps (bad-config x e a b) = offline
+  row-keeps (wants-parameters x e a b d) = wants
+  row-keeps (not-ready x e a b d f) = c .zero-ok q gq
+  row-keeps (configured x e a b d f) = c .at-ok PreDataExchange (counting 0 q) (c .zero-ok q gq)
+  row-keeps (unvalidated x e) = c .zero-ok s g
+  row-keeps (diagnosed x d e) = c .zero-ok (dueIs false q) (c .due-ok false q gq)
+  row-keeps (undiagnosed x d e) = g
+  row-keeps (diagnosed-late x d e) = c .zero-ok (dueIs false q) (c .due-ok false q gq)
+  row-keeps (undiagnosed-late x d e) = g
+  row-keeps (exchanged j x d e f) = c .at-ok DataExchange (dueIs (j || s .«diag_needed») (counting 0 (cycling s))) (c .due-ok (j || s .«diag_needed») (counting 0 (cycling s)) counted)
+  row-keeps (unused j x d e f) = c .due-ok (j || s .«diag_needed») (counting 0 (cycling s)) counted
+  row-keeps (denied x d e f) = c .at-ok ValidateConfig (counting 0 (cycling s)) counted
 
-  module _ (q s : Station) (gq : P q) (g : P s) where
-    found-keeps : (took : Bool) → P (foundOf took q s .station)
-    found-keeps true = c .at-ok WaitForParam (counting 0 q) (c .zero-ok q gq)
-    found-keeps false = g
+  module _ (t : Telegram) (took empty fits : Bool) where
+    -- whatever the state, some row is the reply's
+    keeps-in : (x : PeripheralState) → stateOf (s .state) ≡ x → P (heardOf t took q empty fits s .station)
+    keeps-in Offline x = row-keeps (diagnosis-row s q t took empty fits (rw x refl))
+    keeps-in WaitForParam x = row-keeps (parameters-row s q t took empty fits x)
+    keeps-in WaitForConfig x = row-keeps (configuration-row s q t took empty fits x)
+    keeps-in ValidateConfig x = row-keeps (diagnosis-row s q t took empty fits (rw x refl))
+    keeps-in PreDataExchange x = row-keeps (data-row s q t took empty fits (rw x refl))
+    keeps-in DataExchange x = row-keeps (data-row s q t took empty fits (rw x refl))
 
-    validated-keeps : (took : Bool) → P (validatedOf took q s .station)
-    validated-keeps true = flags-keep (q .diag .flags) (counting 0 q) (c .zero-ok q gq)
-    validated-keeps false = c .zero-ok s g
-
-    diagnosed-keeps : (took : Bool) → P (diagnosedOf took q s .station)
-    diagnosed-keeps true = c .zero-ok (dueIs false q) (c .due-ok false q gq)
-    diagnosed-keeps false = g
-
-    exchange-keeps : (due : Bool) (t : Telegram) (took empty fits : Bool) → P (exchangeOf due t took q empty fits s .station)
-    exchange-keeps true t took empty fits = diagnosed-keeps took
-    exchange-keeps false t took empty fits = data-keeps t empty fits (counting 0 (cycling s)) (c .zero-ok (cycling s) (c .cycling-ok s g))
-
-    acknowledged-keeps : (b : Bool) (x : PeripheralState) → P (acknowledgedOf b x s .station)
-    acknowledged-keeps true x = c .at-ok x (counting 0 (cycling s)) (c .zero-ok (cycling s) (c .cycling-ok s g))
-    acknowledged-keeps false x = g
-
-    keeps-in : (x : PeripheralState) (t : Telegram) (took empty fits : Bool) → P (heardIn x t took q empty fits s .station)
-    keeps-in Offline t took empty fits = found-keeps took
-    keeps-in WaitForParam t took empty fits = acknowledged-keeps (isShort t) WaitForConfig
-    keeps-in WaitForConfig t took empty fits = acknowledged-keeps (isShort t) ValidateConfig
-    keeps-in ValidateConfig t took empty fits = validated-keeps took
-    keeps-in PreDataExchange t took empty fits = exchange-keeps (s .«diag_needed») t took empty fits
-    keeps-in DataExchange t took empty fits = exchange-keeps (s .«diag_needed») t took empty fits
-
-    pub heard-keeps : (t : Telegram) (took empty fits : Bool) → P (heardOf t took q empty fits s .station)
-    unfolding heardOf
-    heard-keeps t took empty fits = keeps-in (stateOf (s .state)) t took empty fits
+    pub heard-keeps : P (heardOf t took q empty fits s .station)
+    heard-keeps = keeps-in (stateOf (s .state)) refl

@@ -1,0 +1,211 @@
+-- The life of one slot: all that calls can do to its open request, its balance, its input image and its notes, one line each.
+-- The idea: that calls do nothing else is shown once (Units, Adding, Turning, Replying); a fact of slots is then a walk over these eight lines.
+use mathlib.Core.Path.{_≡_, refl}
+use Prim.Native.Nat.{ℕ}
+use mathlib.Core.List.{List, _∷_}
+use mathlib.Core.Bool.{Bool, true, cond}
+use mathlib.Core.Option.{Option, none, some}
+use lib.Dec.{T}
+use lib.ListN.{length}
+use Rattle.parts.specs.Parts.{zeros}
+use Rattle.fdl.specs.Reply.{carried}
+use Rattle.fdl.specs.declared.telegram.Telegram.{Telegram}
+use Rattle.fdl.specs.declared.telegram.Telegram.the-variants.{ShortConfirmation, Data as DataReply, Token, Request as RequestTelegram}
+use Rattle.payloads.specs.declared.request.Request.{Request}
+use Rattle.payloads.specs.declared.request.Request.the-variants.{Diagnosis, Parameters, Configuration, Data}
+use Rattle.payloads.specs.Request.{kindNumber}
+use Rattle.payloads.specs.Diagnosis.{diagnosisOf, taken}
+use Rattle.station.specs.declared.visit.Visited.{Visited}
+use Rattle.station.specs.declared.visit.Visited.the-variants.{Sends, Drops, Skips}
+use Rattle.station.specs.declared.record.Station.{Station}
+use Rattle.station.specs.declared.reply.Heard.{Heard}
+use Rattle.station.specs.declared.state.PeripheralState.{PeripheralState}
+use Rattle.station.specs.declared.state.PeripheralState.the-variants.{Offline, WaitForParam, WaitForConfig, ValidateConfig, PreDataExchange, DataExchange}
+use Rattle.station.specs.State.{stateOf}
+use Rattle.station.specs.Record.{dueIs, tookOf}
+use Rattle.station.specs.Visit.{visitedOf}
+use Rattle.station.specs.Reply.{isExchanged, awaitsDiagnosis}
+use Rattle.station.proofs.Rows.{exchanging, coded, Row, diagnosis-row, parameters-row, configuration-row, data-row}
+use Rattle.peripheral.specs.declared.record.Peripheral.{Peripheral}
+use Rattle.peripheral.specs.declared.record.Ranges.{Ranges}
+use Rattle.payloads.specs.declared.options.PeripheralOptions.{PeripheralOptions}
+use Rattle.peripheral.specs.Record.{newBalance, resetOf, stationIs}
+use Rattle.peripheral.specs.Visit.{wishesOf, visitedBy}
+use Rattle.peripheral.specs.Reply.{storedLength, stationTook, hearsOf}
+use Rattle.valid.specs.Valid.{fits, Fits}
+use Rattle.valid.proofs.Stations.{wish-fits, fits-due}
+use Rattle.log.proofs.Wording.{is-true}
+use Rattle.log.specs.Words.{Note, wasAdded, readdressed, wished, wentOffline, asked, got, lastAsked, hasStatus}
+
+-- a slot: its open request, its balance, its input image
+pub record Slot : Type 0 where
+  pub request : Option Request
+  pub balance : Peripheral
+  pub image : List ℕ
+
+abbrev pub slotOf : Option Request → Peripheral → List ℕ → Slot
+slotOf k p im = record { request = k; balance = p; image = im }
+
+-- with its request as given, and another station
+abbrev pub stays : Option Request → Station → Slot → Slot
+stays k s x = slotOf k (stationIs s (x .balance)) (x .image)
+
+-- as newly added, at another address, after a reply t
+abbrev pub newSlot : ℕ → PeripheralOptions → Ranges → Slot
+newSlot address o r = slotOf none (newBalance address o r) (zeros (r .«input_len»))
+
+abbrev pub movedSlot : ℕ → Slot → Slot
+movedSlot address x = slotOf none (resetOf (x .balance) address) (x .image)
+
+abbrev pub heardSlot : Telegram → List ℕ → Heard → Slot → Slot
+heardSlot t payload h x = slotOf none (stationIs (h .station) (x .balance)) (cond (isExchanged (h .event)) (carried t payload) (x .image))
+
+-- a reply to a balance, in the words of its notes; n: how many bytes of a diagnosis are stored
+abbrev pub RowOf : Station → Telegram → List ℕ → ℕ → Request → Heard → Type 0
+RowOf s t payload n k h = Row s (tookOf (diagnosisOf payload) n s) t (taken t (length payload)) (hasStatus 3 t) (hasStatus 10 t) k h
+
+-- limit: the unit's `max_retry_limit`; then the slot and its notes
+pub data Lives (limit : ℕ) : Slot → List Note → Type 0 where
+  -- added
+  joins : (address : ℕ) (o : PeripheralOptions) (r : Ranges) (l : List Note) → Lives limit (newSlot address o r) (wasAdded (r .«input_len») ∷ l)
+  -- its address is reset
+  moves : {x : Slot} {l : List Note} → Lives limit x l → (address : ℕ) → Lives limit (movedSlot address x) (readdressed ∷ l)
+  -- a caller wishes for a diagnosis
+  wishes : {x : Slot} {l : List Note} → Lives limit x l → Lives limit (stays (x .request) (dueIs true (x .balance .station)) x) (wished ∷ l)
+  -- a turn visits it
+  sends : {x : Slot} {l : List Note} {q : Request} → Lives limit x l → wishesOf limit (x .balance) ≡ Sends q → Lives limit (stays (some q) (visitedOf (Sends q) (x .balance .station)) x) (asked q ∷ l)
+  drops : {x : Slot} {l : List Note} → Lives limit x l → wishesOf limit (x .balance) ≡ Drops → Lives limit (stays none (visitedOf Drops (x .balance .station)) x) (wentOffline ∷ l)
+  skips : {x : Slot} {l : List Note} → Lives limit x l → wishesOf limit (x .balance) ≡ Skips → Lives limit (stays none (visitedOf Skips (x .balance .station)) x) l
+  -- a turn does not visit it, or the reply is another slot's: no request stays open
+  passed : {x : Slot} {l : List Note} → Lives limit x l → Lives limit (slotOf none (x .balance) (x .image)) l
+  -- its request is answered
+  answers : {x : Slot} {l : List Note} {q : Request} {t : Telegram} {payload : List ℕ} {h : Heard} → Lives limit x l → x .request ≡ some q → (n : ℕ) → RowOf (x .balance .station) t payload n q h
+      → Lives limit (heardSlot t payload h x) (got t payload (h .event) ∷ l)
+
+-- ---- a visit
+
+abbrev pub visitNote : Visited → List Note → List Note
+visitNote (Sends k) l = asked k ∷ l
+visitNote Drops l = wentOffline ∷ l
+visitNote Skips l = l
+
+abbrev pub kindOf : Visited → Option Request
+kindOf (Sends k) = some k
+kindOf Drops = none
+kindOf Skips = none
+
+module _ {limit : ℕ} {x : Slot} {l : List Note} (i : Lives limit x l) where
+  visit-lives : (v : Visited) → wishesOf limit (x .balance) ≡ v → Lives limit (stays (kindOf v) (visitedOf v (x .balance .station)) x) (visitNote v l)
+  visit-lives (Sends q) e = sends i e
+  visit-lives Drops e = drops i e
+  visit-lives Skips e = skips i e
+
+  pub lives-visited : Lives limit (slotOf (kindOf (wishesOf limit (x .balance))) (visitedBy limit (x .balance)) (x .image)) (visitNote (wishesOf limit (x .balance)) l)
+  lives-visited = visit-lives (wishesOf limit (x .balance)) refl
+
+-- ---- a reply to the open request is in a row
+
+fits-diagnosis : (x : PeripheralState) (d : Bool) → T (fits x d (kindNumber Diagnosis)) → awaitsDiagnosis x d ≡ true
+fits-diagnosis Offline d h = refl
+fits-diagnosis WaitForParam d h = absurd h
+fits-diagnosis WaitForConfig d h = absurd h
+fits-diagnosis ValidateConfig d h = refl
+fits-diagnosis PreDataExchange d h = is-true d h
+fits-diagnosis DataExchange d h = is-true d h
+
+fits-parameters : (x : PeripheralState) (d : Bool) → T (fits x d (kindNumber Parameters)) → x ≡ WaitForParam
+fits-parameters Offline d h = absurd h
+fits-parameters WaitForParam d h = refl
+fits-parameters WaitForConfig d h = absurd h
+fits-parameters ValidateConfig d h = absurd h
+fits-parameters PreDataExchange d h = absurd h
+fits-parameters DataExchange d h = absurd h
+
+fits-configuration : (x : PeripheralState) (d : Bool) → T (fits x d (kindNumber Configuration)) → x ≡ WaitForConfig
+fits-configuration Offline d h = absurd h
+fits-configuration WaitForParam d h = absurd h
+fits-configuration WaitForConfig d h = refl
+fits-configuration ValidateConfig d h = absurd h
+fits-configuration PreDataExchange d h = absurd h
+fits-configuration DataExchange d h = absurd h
+
+fits-data : (x : PeripheralState) (d : Bool) → T (fits x d (kindNumber Data)) → exchanging x ≡ true
+fits-data Offline d h = absurd h
+fits-data WaitForParam d h = absurd h
+fits-data WaitForConfig d h = absurd h
+fits-data ValidateConfig d h = absurd h
+fits-data PreDataExchange d h = refl
+fits-data DataExchange d h = refl
+
+status-is : (n : ℕ) (t : Telegram) → coded n t ≡ hasStatus n t
+status-is n ShortConfirmation = refl
+status-is n (DataReply dsap ssap c) = refl
+status-is n Token = refl
+status-is n RequestTelegram = refl
+
+module _ (t : Telegram) (p : Peripheral) (payload inputs diags : List ℕ) where
+  coded-row : (k : Request) → Fits (p .station) (kindNumber k)
+      → Row (p .station) (tookOf (diagnosisOf payload) (storedLength p payload diags) (p .station)) t (taken t (length payload)) (coded 3 t) (coded 10 t) k (hearsOf t p payload inputs diags)
+  unfolding hearsOf stationTook
+  coded-row Diagnosis f = diagnosis-row _ _ _ _ _ _ (fits-diagnosis (stateOf (p .station .state)) (p .station .«diag_needed») f)
+  coded-row Parameters f = parameters-row _ _ _ _ _ _ (fits-parameters (stateOf (p .station .state)) (p .station .«diag_needed») f)
+  coded-row Configuration f = configuration-row _ _ _ _ _ _ (fits-configuration (stateOf (p .station .state)) (p .station .«diag_needed») f)
+  coded-row Data f = data-row _ _ _ _ _ _ (fits-data (stateOf (p .station .state)) (p .station .«diag_needed») f)
+
+  pub replied-row : (k : Request) → Fits (p .station) (kindNumber k) → RowOf (p .station) t payload (storedLength p payload diags) k (hearsOf t p payload inputs diags)
+  replied-row k f = rw (← status-is 3 t, ← status-is 10 t) (coded-row k f)
+
+-- ---- the open request is the one that was asked last, and fits the state
+
+abbrev pub AskedLast : Option Request → Station → List Note → Type 0
+AskedLast none s l = T true
+AskedLast (some q) s l = (lastAsked l ≡ some q) × Fits s (kindNumber q)
+
+opened-wished : (k : Option Request) (s : Station) (l : List Note) → AskedLast k s l → AskedLast k (dueIs true s) (wished ∷ l)
+opened-wished none s l h = tt
+opened-wished (some q) s l h = (h .0, fits-due (kindNumber q) (s .«diag_needed») (stateOf (s .state)) (h .1))
+
+pub opened : {limit : ℕ} {x : Slot} {l : List Note} → Lives limit x l → AskedLast (x .request) (x .balance .station) l
+opened (joins a o r l) = tt
+opened (moves v a) = tt
+opened (wishes {x = x} {l = l} v) = opened-wished (x .request) (x .balance .station) l (opened v)
+opened {limit} (sends {x = x} v e) = (refl, rw e at (wish-fits (x .balance .options .«has_user_parameters») (x .balance .options .«has_config») (x .balance .station) limit))
+opened (drops v e) = tt
+opened (skips v e) = tt
+opened (passed v) = tt
+opened (answers v o n r) = tt
+
+module _ {limit : ℕ} {x : Slot} {l : List Note} {q : Request} (v : Lives limit x l) (o : x .request ≡ some q) where
+  open-is : AskedLast (some q) (x .balance .station) l
+  open-is = rw o at (opened v)
+
+  pub last-asked : lastAsked l ≡ some q
+  last-asked = open-is .0
+
+  -- the request that is open is answered
+  pub replies : (t : Telegram) (payload inputs diags : List ℕ) → let h = hearsOf t (x .balance) payload inputs diags in Lives limit (heardSlot t payload h x) (got t payload (h .event) ∷ l)
+  replies t payload inputs diags = answers v o (storedLength (x .balance) payload diags) (replied-row t (x .balance) payload inputs diags q (open-is .1))
+
+-- ---- a fact of slots, as its laws; each may use what is known of the slot before
+
+pub record SlotFact (limit : ℕ) (P : Slot → List Note → Type 0) : Type 0 where
+  pub added : (address : ℕ) (o : PeripheralOptions) (r : Ranges) (l : List Note) → P (newSlot address o r) (wasAdded (r .«input_len») ∷ l)
+  pub reset : {x : Slot} {l : List Note} → Lives limit x l → P x l → (address : ℕ) → P (movedSlot address x) (readdressed ∷ l)
+  pub wish : {x : Slot} {l : List Note} → Lives limit x l → P x l → P (stays (x .request) (dueIs true (x .balance .station)) x) (wished ∷ l)
+  pub sent : {x : Slot} {l : List Note} → Lives limit x l → P x l → (q : Request) → wishesOf limit (x .balance) ≡ Sends q → P (stays (some q) (visitedOf (Sends q) (x .balance .station)) x) (asked q ∷ l)
+  pub fell : {x : Slot} {l : List Note} → Lives limit x l → P x l → wishesOf limit (x .balance) ≡ Drops → P (stays none (visitedOf Drops (x .balance .station)) x) (wentOffline ∷ l)
+  pub skipped : {x : Slot} {l : List Note} → Lives limit x l → P x l → wishesOf limit (x .balance) ≡ Skips → P (stays none (visitedOf Skips (x .balance .station)) x) l
+  pub pass : {x : Slot} {l : List Note} → Lives limit x l → P x l → P (slotOf none (x .balance) (x .image)) l
+  pub reply : {x : Slot} {l : List Note} → Lives limit x l → P x l → (q : Request) (t : Telegram) (payload : List ℕ) (n : ℕ) (h : Heard) → x .request ≡ some q → RowOf (x .balance .station) t payload n q h
+      → P (heardSlot t payload h x) (got t payload (h .event) ∷ l)
+
+module _ {limit : ℕ} {P : Slot → List Note → Type 0} (f : SlotFact limit P) where
+  pub always : {x : Slot} {l : List Note} → Lives limit x l → P x l
+  always (joins a o r l) = f .added a o r l
+  always (moves v a) = f .reset v (always v) a
+  always (wishes v) = f .wish v (always v)
+  always (sends v e) = f .sent v (always v) _ e
+  always (drops v e) = f .fell v (always v) e
+  always (skips v e) = f .skipped v (always v) e
+  always (passed v) = f .pass v (always v)
+  always (answers v o n r) = f .reply v (always v) _ _ _ n _ o r
