@@ -27,7 +27,8 @@ use Rattle.master.specs.Add.{rangesAt, optionsHeld, cleared, lengthsOf, userOf,
 use Rattle.valid.specs.Valid.{Valid, balance, occupied}
 use Rattle.valid.proofs.Balances.{open-there}
 use Rattle.log.specs.Calls.{World, lend, back, add, added, addStep, addNumber}
-use Rattle.log.specs.Words.{Entry, wasAdded, Frame, slotLog, frameAfter, FirstEmpty}
+use Rattle.log.specs.Notes.{wasAdded}
+use Rattle.log.specs.Entries.{says, Entry, Frame, slotLog, FirstEmpty}
 use Rattle.log.proofs.Lives.{joins}
 use Rattle.log.proofs.Lent.{lent-same, lent-back}
 use Rattle.log.proofs.Units.{openAt, inputsLent, Inv, InvAt, none-open, not-open, at-set}
@@ -120,11 +121,11 @@ module _ (w : World) (l : List Entry) (i : Inv w l) (a : Addition) (user config 
   inv-add n v =
       record {
         valid = v;
-        frame-is = ap (λ (f : Frame). frameAfter (add a user config lent) (added n (record { slot = t; address = a .address })) none f) (i .frame-is);
+        frame-is = ap (λ (f : Frame). says (add a user config lent) (added n (record { slot = t; address = a .address })) .frame none f) (i .frame-is);
         aimed = i .aimed;
         lives = λ s u.
             rw inputs-after
-            (at-set _ (w .unit .state) (w .unit .peripherals) (cleared (w .unit .used .inputs) (a .«input_len») (lend (lent .inputs) (w .pools .inputs))) (λ s. slotLog s l) t _ (wasAdded (a .«input_len»)) in-table
-            (rw (none-yet, cleared-part (w .unit .used .inputs) (a .«input_len») (lend (lent .inputs) (w .pools .inputs)) range-fits) (joins (a .address) (optionsHeld (a .options) sizes) (rangesAt (w .unit .used) sizes) (slotLog t l))) s
+            (at-set _ (w .unit .state) (w .unit .peripherals) (cleared (w .unit .used .inputs) (a .«input_len») (lend (lent .inputs) (w .pools .inputs))) (λ s. slotLog s l) t _ (wasAdded a) in-table
+            (rw (none-yet, cleared-part (w .unit .used .inputs) (a .«input_len») (lend (lent .inputs) (w .pools .inputs)) range-fits) (joins a user config (w .unit .used) (slotLog t l))) s
             (λ d. rw (other-image s (old s u d)) (i .lives s (old s u d))));
       }

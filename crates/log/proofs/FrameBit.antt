@@ -23,7 +23,8 @@ use Rattle.master.specs.Unit.{stateIs, balancesAre}
 use Rattle.master.specs.Turn.{stepAt, sweptBy, askedIn, turnAnswer}
 use Rattle.valid.specs.Valid.{Valid}
 use Rattle.log.specs.Calls.{World, turn, turnNumber, turnStep, turnPayloadAt, step}
-use Rattle.log.specs.Words.{Entry, Note, turnOf, slotAsked, slotLog}
+use Rattle.log.specs.Notes.{Note, turnOf, slotAsked}
+use Rattle.log.specs.Entries.{Entry, slotLog}
 use Rattle.log.specs.Run.{run}
 use Rattle.log.specs.Slots.{cycles, frameBit, BitTold, bitSent, SentBitTold}
 use Rattle.station.proofs.Rows.{found, unfound, parameters, no-parameters, configuration, no-configuration, bad-parameters, bad-config, wants-parameters, not-ready, configured, unvalidated, diagnosed, undiagnosed, diagnosed-late, undiagnosed-late, exchanged, unused, denied}
@@ -67,7 +68,7 @@ bit-row s t payload n (denied x d e f) = rw d (back _)
 bit-fact : (limit : ℕ) → SlotFact limit (λ (x : Slot) (l : List Note). bitOf (x .balance .station .fcb) ≡ frameBit l)
 bit-fact limit =
     record {
-      added = λ a o r l. refl;
+      added = λ a user config used l. refl;
       reset = λ v i a. refl;
       wish = λ v i. i;
       sent = λ v i q e. i;

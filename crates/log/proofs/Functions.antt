@@ -26,7 +26,8 @@ use Rattle.master.specs.Reply.{Received}
 use Rattle.master.specs.Handle.{resetDone, wishDone}
 use Rattle.access.specs.Lookup.{inputNumber, outputNumber, inputsSeen, outputsSeen, OutputsWritten}
 use Rattle.log.specs.Calls.{World, Call, Outcome, lend, back, enter, hand, number, unitIs, outputsAre, step}
-use Rattle.log.specs.Words.{Entry, slotLog, imageOf}
+use Rattle.log.specs.Entries.{Entry, slotLog}
+use Rattle.log.specs.Words.{imageOf}
 use Rattle.log.specs.Run.{Run, after, run}
 use Rattle.log.specs.Made.{by-add, by-enter-state, by-enter-stop, by-enter-clear, by-enter-operate, by-transmit-telegram, by-receive-reply, by-reset-address, by-request-diagnostics, by-write-outputs, by-pi-q-mut, Handed, by-pi-i, by-new, then}
 use Rattle.log.specs.Promises.{AllowedIsStep, MadeIsRun, ReadTold}

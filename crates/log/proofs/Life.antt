@@ -22,7 +22,9 @@ use Rattle.master.specs.Unit.{emptyUnit, createdOf}
 use Rattle.master.specs.Handle.{resetDone, wishDone}
 use Rattle.access.specs.Lookup.{foundIn, writeRefusal}
 use Rattle.log.specs.Calls.{Pools, step}
-use Rattle.log.specs.Words.{turnOf, reached, asksData}
+use Rattle.log.specs.Notes.{turnOf}
+use Rattle.log.specs.Entries.{reached}
+use Rattle.log.specs.Words.{asksData}
 use Rattle.log.specs.Run.{run}
 use Rattle.log.specs.Promises.{imageIn}
 use Rattle.log.specs.Life.{bench, benchPools, turnAt, configured, exchanged, answersTo, afterAll, firstHalf, secondHalf, firstAnswers, secondAnswers, smallBench, noPools, twoBalances, twoAnswers}

@@ -27,15 +27,18 @@ use Rattle.station.specs.Visit.{visitedOf}
 use Rattle.station.specs.Reply.{isExchanged, awaitsDiagnosis}
 use Rattle.station.proofs.Rows.{exchanging, coded, Row, diagnosis-row, parameters-row, configuration-row, data-row}
 use Rattle.peripheral.specs.declared.record.Peripheral.{Peripheral}
-use Rattle.peripheral.specs.declared.record.Ranges.{Ranges}
-use Rattle.payloads.specs.declared.options.PeripheralOptions.{PeripheralOptions}
 use Rattle.peripheral.specs.Record.{newBalance, resetOf, stationIs}
 use Rattle.peripheral.specs.Visit.{wishesOf, visitedBy}
 use Rattle.peripheral.specs.Reply.{storedLength, stationTook, hearsOf}
 use Rattle.valid.specs.Valid.{fits, Fits}
 use Rattle.valid.proofs.Stations.{wish-fits, fits-due}
+use Rattle.cycle.specs.declared.refusal.Lengths.{Lengths}
+use Rattle.cycle.specs.declared.refusal.Used.{Used}
+use Rattle.master.specs.declared.add.Addition.{Addition}
+use Rattle.master.specs.Add.{rangesAt, optionsHeld, lengthsOf}
 use Rattle.log.proofs.Wording.{is-true}
-use Rattle.log.specs.Words.{Note, wasAdded, readdressed, wished, wentOffline, asked, got, lastAsked, hasStatus}
+use Rattle.log.specs.Notes.{Note, wasAdded, readdressed, wished, wentOffline, asked, got}
+use Rattle.log.specs.Words.{lastAsked, hasStatus}
 
 -- a slot: its open request, its balance, its input image
 pub record Slot : Type 0 where
@@ -51,8 +54,8 @@ abbrev pub stays : Option Request → Station → Slot → Slot
 stays k s x = slotOf k (stationIs s (x .balance)) (x .image)
 
 -- as newly added, at another address, after a reply t
-abbrev pub newSlot : ℕ → PeripheralOptions → Ranges → Slot
-newSlot address o r = slotOf none (newBalance address o r) (zeros (r .«input_len»))
+abbrev pub newSlot : Addition → Lengths → Used → Slot
+newSlot a sizes used = slotOf none (newBalance (a .address) (optionsHeld (a .options) sizes) (rangesAt used sizes)) (zeros (a .«input_len»))
 
 abbrev pub movedSlot : ℕ → Slot → Slot
 movedSlot address x = slotOf none (resetOf (x .balance) address) (x .image)
@@ -67,7 +70,7 @@ RowOf s t payload n k h = Row s (tookOf (diagnosisOf payload) n s) t (taken t (l
 -- limit: the unit's `max_retry_limit`; then the slot and its notes
 pub data Lives (limit : ℕ) : Slot → List Note → Type 0 where
   -- added
-  joins : (address : ℕ) (o : PeripheralOptions) (r : Ranges) (l : List Note) → Lives limit (newSlot address o r) (wasAdded (r .«input_len») ∷ l)
+  joins : (a : Addition) (user config : List ℕ) (used : Used) (l : List Note) → Lives limit (newSlot a (lengthsOf a user config) used) (wasAdded a ∷ l)
   -- its address is reset
   moves : {x : Slot} {l : List Note} → Lives limit x l → (address : ℕ) → Lives limit (movedSlot address x) (readdressed ∷ l)
   -- a caller wishes for a diagnosis
@@ -166,7 +169,7 @@ opened-wished none s l h = tt
 opened-wished (some q) s l h = (h .0, fits-due (kindNumber q) (s .«diag_needed») (stateOf (s .state)) (h .1))
 
 pub opened : {limit : ℕ} {x : Slot} {l : List Note} → Lives limit x l → AskedLast (x .request) (x .balance .station) l
-opened (joins a o r l) = tt
+opened (joins a user config used l) = tt
 opened (moves v a) = tt
 opened (wishes {x = x} {l = l} v) = opened-wished (x .request) (x .balance .station) l (opened v)
 opened {limit} (sends {x = x} v e) = (refl, rw e at (wish-fits (x .balance .options .«has_user_parameters») (x .balance .options .«has_config») (x .balance .station) limit))
@@ -189,7 +192,7 @@ module _ {limit : ℕ} {x : Slot} {l : List Note} {q : Request} (v : Lives limit
 -- ---- a fact of slots, as its laws; each may use what is known of the slot before
 
 pub record SlotFact (limit : ℕ) (P : Slot → List Note → Type 0) : Type 0 where
-  pub added : (address : ℕ) (o : PeripheralOptions) (r : Ranges) (l : List Note) → P (newSlot address o r) (wasAdded (r .«input_len») ∷ l)
+  pub added : (a : Addition) (user config : List ℕ) (used : Used) (l : List Note) → P (newSlot a (lengthsOf a user config) used) (wasAdded a ∷ l)
   pub reset : {x : Slot} {l : List Note} → Lives limit x l → P x l → (address : ℕ) → P (movedSlot address x) (readdressed ∷ l)
   pub wish : {x : Slot} {l : List Note} → Lives limit x l → P x l → P (stays (x .request) (dueIs true (x .balance .station)) x) (wished ∷ l)
   pub sent : {x : Slot} {l : List Note} → Lives limit x l → P x l → (q : Request) → wishesOf limit (x .balance) ≡ Sends q → P (stays (some q) (visitedOf (Sends q) (x .balance .station)) x) (asked q ∷ l)
@@ -201,7 +204,7 @@ pub record SlotFact (limit : ℕ) (P : Slot → List Note → Type 0) : Type 0 w
 
 module _ {limit : ℕ} {P : Slot → List Note → Type 0} (f : SlotFact limit P) where
   pub always : {x : Slot} {l : List Note} → Lives limit x l → P x l
-  always (joins a o r l) = f .added a o r l
+  always (joins a user config used l) = f .added a user config used l
   always (moves v a) = f .reset v (always v) a
   always (wishes v) = f .wish v (always v)
   always (sends v e) = f .sent v (always v) _ e

@@ -27,7 +27,9 @@ use Rattle.master.specs.declared.unit.DpMaster.{DpMaster}
 use Rattle.valid.proofs.Balances.{marked-below}
 use Rattle.peripheral_set.specs.declared.PeripheralHandle.{PeripheralHandle}
 use Rattle.log.specs.Calls.{Pools, World, lend, Call, add, enter, turn, reply, reset, wish, write, hand, accepted, addStep, turnStep, replyStep, addNumber, turnNumber, replyNumber, turnPayloadAt, step}
-use Rattle.log.specs.Words.{Entry, turnOf, slotAsked, reportedOffline, slotLog, Frame, frameOf, occupiedIn, Moved, reached, dueOf, imageOf, asksData}
+use Rattle.log.specs.Notes.{turnOf, slotAsked, reportedOffline}
+use Rattle.log.specs.Entries.{Entry, slotLog, Frame, frameOf, occupiedIn, Moved, reached}
+use Rattle.log.specs.Words.{dueOf, imageOf, asksData}
 use Rattle.log.specs.Run.{run}
 use Rattle.log.specs.Promises.{ImageTold, FrameTold, AskedTold, ReachedTold, Masked, MaskTold, FirstTold, NextTold, NeverOverlap}
 use Rattle.log.proofs.Wording.{is-true, ready, wording, due-wording}

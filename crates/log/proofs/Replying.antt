@@ -32,7 +32,8 @@ use Rattle.master.specs.Reply.{openBalance, replyAt}
 use Rattle.valid.specs.Valid.{Valid, balance, occupied}
 use Rattle.valid.proofs.Balances.{marked-below, open-there}
 use Rattle.log.specs.Calls.{World, lend, back, reply, replied, replyStep, replyNumber}
-use Rattle.log.specs.Words.{Entry, got, target, Place, slotLog, placeNext, placeReplied, frameOf, occupiedIn, Moved}
+use Rattle.log.specs.Notes.{got}
+use Rattle.log.specs.Entries.{Entry, target, Place, slotLog, placeNext, placeReplied, frameOf, occupiedIn, Moved}
 use Rattle.log.specs.Promises.{frameIn}
 use Rattle.log.proofs.Lives.{passed, replies}
 use Rattle.log.proofs.Lent.{lent-same, lent-back}

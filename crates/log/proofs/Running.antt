@@ -15,7 +15,8 @@ use Rattle.station.specs.declared.record.Station.{Station}
 use Rattle.station.specs.declared.reply.Heard.{Heard}
 use Rattle.station.specs.Record.{isRunning, tookOf}
 use Rattle.station.specs.Reply.{isExchanged}
-use Rattle.log.specs.Words.{Note, isError, denies, fall, notEnabled}
+use Rattle.log.specs.Notes.{Note, isError}
+use Rattle.log.specs.Words.{denies, fall, notEnabled}
 use Rattle.log.specs.Slots.{exchangedBy, Running, RunningTold}
 use Rattle.log.proofs.Wording.{and-l, and-r, and-i, or-e, or-l, or-r}
 use Rattle.station.proofs.Rows.{found, unfound, parameters, no-parameters, configuration, no-configuration, bad-parameters, bad-config, wants-parameters, not-ready, configured, unvalidated, diagnosed, undiagnosed, diagnosed-late, undiagnosed-late, exchanged, unused, denied}
@@ -55,7 +56,7 @@ running-row s t payload n (unused j x d e f) = rw (d, e) refl
 running-row s t payload n (denied x d e f) = rw (d, e) refl
 
 pub running : {limit : ℕ} {x : Slot} {l : List Note} → Lives limit x l → isRunning (x .balance .station) ≡ runs l
-running (joins a o r l) = refl
+running (joins a user config used l) = refl
 running (moves v a) = refl
 running (wishes v) = running v
 running (sends v e) = running v

@@ -5,7 +5,8 @@ use mathlib.Core.List.{List}
 use lib.Dec.{T}
 use Rattle.fdl.specs.declared.parameters.Parameters.{Parameters}
 use Rattle.log.specs.Calls.{Pools, Call}
-use Rattle.log.specs.Words.{Note, slotLog, occupiedIn}
+use Rattle.log.specs.Notes.{Note}
+use Rattle.log.specs.Entries.{slotLog, occupiedIn}
 use Rattle.log.specs.Run.{run}
 use Rattle.log.proofs.Lives.{Slot, SlotFact, always}
 use Rattle.log.proofs.Units.{slotAt}

@@ -20,7 +20,8 @@ use Rattle.station.specs.Record.{inState, tookOf}
 use Rattle.station.specs.Visit.{wishOf}
 use Rattle.station.specs.Reply.{isExchanged, awaitsData}
 use Rattle.station.proofs.Visits.{falls, asksData, wish-falls, wish-data}
-use Rattle.log.specs.Words.{Note, confirms, denies, warns, cleans, isError, isDiagnosed, dueOf, imageOf}
+use Rattle.log.specs.Notes.{Note, isError, isDiagnosed}
+use Rattle.log.specs.Words.{confirms, denies, warns, cleans, dueOf, imageOf}
 use Rattle.log.proofs.Wording.{is-true, and-l, and-r, hasParam, hasConfig, ready}
 use Rattle.station.proofs.Rows.{exchanging, found, unfound, parameters, no-parameters, configuration, no-configuration, bad-parameters, bad-config, wants-parameters, not-ready, configured, unvalidated, diagnosed, undiagnosed, diagnosed-late, undiagnosed-late, exchanged, unused, denied}
 use Rattle.log.proofs.Lives.{Slot, RowOf, Lives, joins, moves, wishes, sends, drops, skips, passed, answers, last-asked}
@@ -157,7 +158,7 @@ module _ (s : Station) (t : Telegram) (payload : List ℕ) (hp hc rd : Bool) (h 
 -- ---- the facts of slots that the promises need
 
 pub told : {limit : ℕ} {x : Slot} {l : List Note} → Lives limit x l → Told (x .balance .station) l
-told (joins a o r l) = record { due-is = refl; in-phase = tt }
+told (joins a user config used l) = record { due-is = refl; in-phase = tt }
 told (moves v a) = record { due-is = refl; in-phase = tt }
 told (wishes {x = x} {l = l} v) = record { due-is = refl; in-phase = same-words (stateOf (x .balance .station .state)) (hasParam l) (hasConfig l) (ready l) (told v .in-phase) }
 told (sends {x = x} {l = l} v e) = record { due-is = told v .due-is; in-phase = same-words (stateOf (x .balance .station .state)) (hasParam l) (hasConfig l) (ready l) (told v .in-phase) }
@@ -169,7 +170,7 @@ told (answers {x = x} {l = l} {t = t} {payload = payload} v o n r) =
     record { due-is = rw (last-asked v o, ← told v .due-is) (y .due-ok); in-phase = rw (last-asked v o, ← told v .due-is) (y .phase-ok) }
 
 pub image : {limit : ℕ} {x : Slot} {l : List Note} → Lives limit x l → x .image ≡ imageOf l
-image (joins a o r l) = refl
+image (joins a user config used l) = refl
 image (moves v a) = image v
 image (wishes v) = image v
 image (sends v e) = image v

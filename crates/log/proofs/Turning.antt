@@ -35,7 +35,9 @@ use Rattle.cycle.specs.Seen.{nothingSeen, idle}
 use Rattle.master.specs.Unit.{stateIs, balancesAre, balanceAt}
 use Rattle.master.proofs.Bits.{bit, zero-bit}
 use Rattle.valid.proofs.Balances.{marked-below}
-use Rattle.log.specs.Words.{slotAsked, upTo, reached, Entry, Note, wentOffline, asked, Place, target, isOffline, bitSet, reportedOffline, noteAsked, slotLog, placeTurned, isKind, dueOf, asksData}
+use Rattle.log.specs.Notes.{slotAsked, Note, wentOffline, asked, isOffline, bitSet, reportedOffline, noteAsked}
+use Rattle.log.specs.Entries.{upTo, reached, Entry, Place, target, slotLog, placeTurned}
+use Rattle.log.specs.Words.{isKind, dueOf, asksData}
 use Rattle.log.specs.Promises.{MaskEvent}
 use Rattle.payloads.specs.Request.{kindNumber}
 use Rattle.log.proofs.Visits.{kindSent, wentTo, Swung, all-visits, Lowest, Firsts, all-first, empty-bit}

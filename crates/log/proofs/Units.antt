@@ -31,7 +31,8 @@ use Rattle.valid.specs.Valid.{Valid, occupied}
 use Rattle.valid.proofs.Balances.{marked-below}
 use Rattle.valid.proofs.Calls.{handle-there, index-is}
 use Rattle.log.specs.Calls.{World, lend, Call, enter, reset, wish, write, hand, Answer, unitIs, doneStep}
-use Rattle.log.specs.Words.{Entry, Note, readdressed, wished, Frame, target, noteIf, slotLog, frameAfter, frameOf}
+use Rattle.log.specs.Notes.{Note, readdressed, wished, noteIf}
+use Rattle.log.specs.Entries.{says, Entry, Frame, target, slotLog, frameOf}
 use Rattle.log.specs.Promises.{frameIn}
 use Rattle.log.proofs.Lives.{Slot, slotOf, Lives, moves, wishes}
 
@@ -98,7 +99,7 @@ module _ (w : World) (l : List Entry) (i : Inv w l) where
   inv-enter o x v =
       record {
         valid = v;
-        frame-is = rw (mode-number o) (ap (λ (f : Frame). frameAfter (enter o) x none f) (i .frame-is));
+        frame-is = rw (mode-number o) (ap (λ (f : Frame). says (enter o) x .frame none f) (i .frame-is));
         aimed = i .aimed;
         lives = i .lives;
       }

@@ -13,7 +13,8 @@ use mathlib.Core.Option.{Option, none, some}
 use Rattle.payloads.specs.declared.request.Request.{Request}
 use Rattle.payloads.specs.declared.request.Request.the-variants.{Diagnosis, Parameters, Configuration, Data}
 use Rattle.fdl.specs.declared.telegram.Telegram.{Telegram}
-use Rattle.log.specs.Words.{Note, wasAdded, readdressed, wished, wentOffline, asked, got, lastAsked, denies, cleans, makesDue, endsDue, dueOf, fall, acknowledged, clean, notEnabled, dueMade, dueEnded, Due, Ready}
+use Rattle.log.specs.Notes.{Note, Incoming, contentOf, given}
+use Rattle.log.specs.Words.{lastAsked, denies, cleans, makesDue, endsDue, dueOf, fall, acknowledged, clean, notEnabled, dueMade, dueEnded, Due, Ready}
 
 -- ---- the walks
 
@@ -187,12 +188,11 @@ not-both (some Data) due t payload h = absurd h
 
 clean-enabled : (l : List Note) → T (clean l) → T (not (notEnabled l))
 clean-enabled [] h = tt
-clean-enabled (wasAdded n ∷ l) h = tt
-clean-enabled (readdressed ∷ l) h = tt
-clean-enabled (wished ∷ l) h = tt
-clean-enabled (wentOffline ∷ l) h = tt
-clean-enabled (asked k ∷ l) h = tt
-clean-enabled (got t payload e ∷ l) h = not-both (lastAsked l) (dueOf l) t payload h
+clean-enabled (x ∷ l) h = of (contentOf x .reply) h
+  where
+    of : (r : Option Incoming) → T (given false (λ (r : Incoming). cleans (lastAsked l) (r .telegram) (r .payload)) r) → T (not (given false (λ (r : Incoming). denies (lastAsked l) (dueOf l) (r .telegram)) r))
+    of none h = tt
+    of (some r) h = not-both (lastAsked l) (dueOf l) (r .telegram) (r .payload) h
 
 is-ready : (l : List Note) (d c p : ℕ) → d < c → c < p → T (clean (drop d l)) → T (acknowledged Configuration (drop c l)) → T (acknowledged Parameters (drop p l)) → Upright p l →
     ((i : ℕ) → i < d → T (not (notEnabled (drop i l)))) → T (ready l)

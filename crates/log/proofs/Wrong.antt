@@ -26,7 +26,8 @@ use Rattle.master.specs.Unit.{emptyUnit, createdOf, balanceAt}
 use Rattle.master.specs.Turn.{sweepFrom, sweptBy, turnPayload, turnAnswer}
 use Rattle.master.specs.Reply.{replyAt}
 use Rattle.log.specs.Calls.{Pools, World, Call, add, enter, turn, reply, reset, wish, write, hand, Outcome, refusal, accepted, step}
-use Rattle.log.specs.Words.{turnOf, slotLog, occupiedIn, reached}
+use Rattle.log.specs.Notes.{turnOf}
+use Rattle.log.specs.Entries.{slotLog, occupiedIn, reached}
 use Rattle.log.specs.Run.{runBy}
 use Rattle.log.specs.Promises.{ImageAt, ImageBy, AskedAt, AskedBy, MaskBy}
 use Rattle.log.specs.Life.{bench, benchPools, turnAt, diagnosisReply, diagnosisAnswered, started, startedBench, askedBench}

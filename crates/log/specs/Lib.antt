@@ -1,4 +1,6 @@
 pub mod Calls
+pub mod Notes
+pub mod Entries
 pub mod Words
 pub mod Run
 pub mod Made

@@ -14,6 +14,9 @@ use Rattle.fdl.specs.declared.parameters.Parameters.{Parameters}
 use Rattle.peripheral_set.specs.declared.PeripheralHandle.{PeripheralHandle}
 use Rattle.cycle.specs.declared.refusal.Lent.{Lent}
 use Rattle.cycle.specs.declared.state.OperatingState.the-variants.{Stop, Clear, Operate}
+use Rattle.log.specs.Calls.{Call, add, enter, turn, reply, reset, wish, write, hand, number, added, turned, replied, Pools, World, Outcome, lend, back, unitIs, outputsAre}
+use Rattle.log.specs.Entries.{Entry}
+use Rattle.log.specs.Run.{after}
 use Rattle.master.proofs.unit.DpMaster.new.Kinds as K·new
 use Rattle.master.proofs.unit.DpMaster.new.Reads as R·new
 use Rattle.master.proofs.unit.DpMaster.add.Kinds as K·add
@@ -42,9 +45,6 @@ use Rattle.access.proofs.images.pi_q_refusal.Kinds as K·number
 use Rattle.access.proofs.images.pi_q_refusal.Reads as R·number
 use Rattle.access.proofs.images.pi_i.Kinds as K·image
 use Rattle.access.proofs.images.pi_i.Reads as R·image
-use Rattle.log.specs.Calls.{Call, add, enter, turn, reply, reset, wish, write, hand, number, added, turned, replied, Pools, World, Outcome, lend, back, unitIs, outputsAre}
-use Rattle.log.specs.Words.{Entry}
-use Rattle.log.specs.Run.{after}
 
 -- a call of a function on the unit of w, lent the first so many bytes of its arrays, and what it leaves
 pub data Allowed (w : World) : Call → Outcome → Type 0 where

@@ -7,7 +7,6 @@ use Prim.Native.Nat.{ℕ, _<_, _^_}
 use mathlib.Core.Bool.{Bool, true, false, not, _&&_, cond}
 use mathlib.Core.List.{List, []}
 use mathlib.Core.Option.{some}
-use lib.ListN.{length}
 use lib.Dec.{T, eqb, ltb}
 use Rattle.fdl.specs.declared.parameters.Parameters.{Parameters}
 use Rattle.fdl.specs.declared.telegram.Telegram.{Telegram}
@@ -24,7 +23,9 @@ use Rattle.master.specs.declared.add.Addition.{Addition}
 use Rattle.access.specs.Lookup.{inputNumber}
 use Rattle.valid.specs.Valid.{Valid, Apart, balance}
 use Rattle.log.specs.Calls.{Call, add, turn, reply, turned, Pools, World, Outcome, accepted, refusal, lend, step}
-use Rattle.log.specs.Words.{Entry, turnOf, slotGiven, slotAsked, isOffline, bitSet, reportedOffline, slotLog, Frame, frameOf, occupiedIn, FirstEmpty, Moved, reached, imageOf, Due, Ready, asksData}
+use Rattle.log.specs.Notes.{turnOf, slotGiven, slotAsked, isOffline, bitSet, reportedOffline}
+use Rattle.log.specs.Entries.{Entry, slotLog, Frame, frameOf, occupiedIn, FirstEmpty, Moved, reached}
+use Rattle.log.specs.Words.{imageOf, Due, Ready, asksData}
 use Rattle.log.specs.Run.{runBy, run, acceptedOf}
 use Rattle.log.specs.Made.{Allowed, Handed, Made}
 

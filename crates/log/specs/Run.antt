@@ -5,7 +5,7 @@ use mathlib.Core.List.{List, [], _∷_}
 use Rattle.fdl.specs.declared.parameters.Parameters.{Parameters}
 use Rattle.master.specs.Unit.{createdOf}
 use Rattle.log.specs.Calls.{Call, Pools, World, Outcome, accepted, step}
-use Rattle.log.specs.Words.{Entry}
+use Rattle.log.specs.Entries.{Entry}
 
 pub record Run : Type 0 where
   pub world : World

@@ -22,7 +22,9 @@ use Rattle.answers.specs.declared.turn.Transmission.{Transmission}
 use Rattle.answers.specs.declared.turn.Transmission.the-variants.{Nothing, Control, Request as Asks}
 use Rattle.valid.specs.Valid.{balance}
 use Rattle.log.specs.Calls.{Pools, Call, turn, step}
-use Rattle.log.specs.Words.{turnOf, slotAsked, Note, wasAdded, readdressed, wished, wentOffline, asked, got, slotLog, occupiedIn, lastAsked, dueOf, fall, notEnabled}
+use Rattle.log.specs.Notes.{ofReply, fresh, turnOf, slotAsked, Note}
+use Rattle.log.specs.Entries.{slotLog, occupiedIn}
+use Rattle.log.specs.Words.{lastAsked, dueOf, fall, notEnabled}
 use Rattle.log.specs.Run.{run}
 
 -- ---- in DataExchange
@@ -30,12 +32,7 @@ use Rattle.log.specs.Run.{run}
 -- a reply reported DataExchanged
 abbrev pub exchangedBy : List Note → Bool
 exchangedBy [] = false
-exchangedBy (wasAdded n ∷ l) = false
-exchangedBy (readdressed ∷ l) = false
-exchangedBy (wished ∷ l) = false
-exchangedBy (wentOffline ∷ l) = false
-exchangedBy (asked k ∷ l) = false
-exchangedBy (got t payload e ∷ l) = isExchanged e
+exchangedBy (x ∷ l) = ofReply false (λ t payload e. isExchanged e) x
 
 -- such a reply, and after it neither a fall nor "SAP not enabled"
 pub record Running (l : List Note) : Type 0 where
@@ -61,12 +58,7 @@ cycles (some Data) due t payload = cond due (taken t (length payload)) true
 -- First since adding or reset, then cycled by each such reply
 abbrev pub frameBit : List Note → FrameCountBit
 frameBit [] = First
-frameBit (wasAdded n ∷ l) = First
-frameBit (readdressed ∷ l) = First
-frameBit (wished ∷ l) = frameBit l
-frameBit (wentOffline ∷ l) = frameBit l
-frameBit (asked k ∷ l) = frameBit l
-frameBit (got t payload e ∷ l) = cond (cycles (lastAsked l) (dueOf l) t payload) (cycled (frameBit l)) (frameBit l)
+frameBit (x ∷ l) = cond (fresh x) First (ofReply (frameBit l) (λ t payload e. cond (cycles (lastAsked l) (dueOf l) t payload) (cycled (frameBit l)) (frameBit l)) x)
 
 abbrev pub BitTold : Type 0
 BitTold = (u : Parameters) (pools : Pools) (cs : List Call) (s : ℕ) → T (occupiedIn (run u pools cs .log) s)
