@@ -33,16 +33,32 @@ put-requires-2 : tie.Need-put-requires-2
 put-requires-2 c κs = search needs
 
 same-length : tie.Need-same-length
-same-length c = c .before .before .put2 .kept .0 ∙ c .before .before .before .before .before .before .slots .kept .0 ∙ c .before .before .before .before .before .before .before .before .before .before .field .kept .0 ∙ c .before .before .before .before .before .before .before .before .before .before .before .before .before .before .before .pools .kept .0 ∙ c .before .before .before .before .before .before .before .before .before .before .before .before .before .before .before .before .before .before .before .state .kept .0 ∙ c .before .before .before .before .before .before .before .before .before .before .before .before .before .before .before .before .before .before .before .before .before .before .before .parameters .kept .0 ∙ c .before .before .before .before .before .before .before .before .before .before .before .before .before .before .before .before .before .before .before .before .before .before .before .before .before .before .before .put .kept .0
+same-length c =
+    let at-put2 = c .before .before in
+    let at-slots = at-put2 .before .before .before .before in
+    let at-field = at-slots .before .before .before .before in
+    let at-pools = at-field .before .before .before .before .before in
+    let at-state = at-pools .before .before .before .before in
+    let at-parameters = at-state .before .before .before .before in
+    let at-put = at-parameters .before .before .before .before in
+    at-put2 .put2 .kept .0 ∙ at-slots .slots .kept .0 ∙ at-field .field .kept .0 ∙ at-pools .pools .kept .0 ∙ at-state .state .kept .0 ∙ at-parameters .parameters .kept .0 ∙ at-put .put .kept .0
 
 returns : tie.Need-returns
 unfolding dumpText
 returns c =
-    then (0x44 ∷ []) _ _ _ _ (c .before .before .before .before .before .before .before .before .before .before .before .before .before .before .before .before .before .before .before .before .before .before .before .before .before .before .before .put .ensures)
-    (then _ _ _ _ _ (c .before .before .before .before .before .before .before .before .before .before .before .before .before .before .before .before .before .before .before .before .before .before .before .parameters .ensures)
-    (then _ _ _ _ _ (c .before .before .before .before .before .before .before .before .before .before .before .before .before .before .before .before .before .before .before .state .ensures)
-    (then _ _ _ _ _ (c .before .before .before .before .before .before .before .before .before .before .before .before .before .before .before .pools .ensures)
-    (then _ _ _ _ _ (simp (c .before .before .before .before .before .before .before .before .before .before .before .count .ensures) at (c .before .before .before .before .before .before .before .before .before .before .field .ensures)) (then _ newline _ _ _ (c .before .before .before .before .before .before .slots .ensures) (c .before .before .put2 .ensures))))))
+    let at-put2 = c .before .before in
+    let at-slots = at-put2 .before .before .before .before in
+    let at-field = at-slots .before .before .before .before in
+    let at-count = at-field .before in
+    let at-pools = at-count .before .before .before .before in
+    let at-state = at-pools .before .before .before .before in
+    let at-parameters = at-state .before .before .before .before in
+    let at-put = at-parameters .before .before .before .before in
+    then (0x44 ∷ []) _ _ _ _ (at-put .put .ensures)
+    (then _ _ _ _ _ (at-parameters .parameters .ensures)
+    (then _ _ _ _ _ (at-state .state .ensures)
+    (then _ _ _ _ _ (at-pools .pools .ensures)
+    (then _ _ _ _ _ (simp (at-count .count .ensures) at (at-field .field .ensures)) (then _ newline _ _ _ (at-slots .slots .ensures) (at-put2 .put2 .ensures))))))
 
 pub line-spec : {M : Type 1} → statement M
 line-spec = tie.close (tie.spec put-requires parameters-requires state-requires pools-requires count-requires field-requires slots-requires put-requires-2 same-length returns)

@@ -48,7 +48,11 @@ same-length c = c .before .before .fields .kept .0
 
 returns : tie.Need-returns
 unfolding parametersText
-returns c = simp (c .before .before .before .before .before .before .before .before .before .before .before .before .flag .ensures, c .before .before .before .before .before .before .before .before .before .wide .ensures .0) at (c .before .before .fields .ensures)
+returns c =
+    let at-fields = c .before .before in
+    let at-wide = at-fields .before .before .before .before .before .before .before in
+    let at-flag = at-wide .before .before .before in
+    simp (at-flag .flag .ensures, at-wide .wide .ensures .0) at (at-fields .fields .ensures)
 
 pub parameters-spec : {M : Type 1} → statement M
 parameters-spec =

@@ -28,7 +28,11 @@ same-length-2 c = c .before .before .put2 .kept .0 ∙ c .before .before .before
 
 returns-2 : tie.Need-returns-2
 unfolding setupText
-returns-2 c = rw (c .before .before .before .before .before .before .before .before .if1 .left) (then (32 ∷ []) (120 ∷ []) _ _ _ (c .before .before .before .before .before .before .put .ensures) (c .before .before .put2 .ensures))
+returns-2 c =
+    let at-put2 = c .before .before in
+    let at-put = at-put2 .before .before .before .before in
+    let at-if1 = at-put .before .before in
+    rw (at-if1 .if1 .left) (then (32 ∷ []) (120 ∷ []) _ _ _ (at-put .put .ensures) (at-put2 .put2 .ensures))
 
 pub setup-len-spec : {M : Type 1} → statement M
 setup-len-spec = tie.close (tie.spec field-requires same-length returns put-requires put-requires-2 same-length-2 returns-2)

@@ -97,14 +97,30 @@ fields-requires-2 : tie.Need-fields-requires-2
 fields-requires-2 c κs = search needs
 
 same-length : tie.Need-same-length
-same-length c = c .before .before .fields2 .kept .0 ∙ c .before .before .before .before .before .before .before .setup-len2 .kept .0 ∙ c .before .before .before .before .before .before .before .before .before .before .before .setup-len .kept .0 ∙ c .before .before .before .before .before .before .before .before .before .before .before .before .before .before .before .fields .kept .0
+same-length c =
+    let at-fields2 = c .before .before in
+    let at-setup-len2 = at-fields2 .before .before .before .before .before in
+    let at-setup-len = at-setup-len2 .before .before .before .before in
+    let at-fields = at-setup-len .before .before .before .before in
+    at-fields2 .fields2 .kept .0 ∙ at-setup-len2 .setup-len2 .kept .0 ∙ at-setup-len .setup-len .kept .0 ∙ at-fields .fields .kept .0
 
 returns : tie.Need-returns
 unfolding slotText
 returns c =
+    let at-fields2 = c .before .before in
+    let at-setup-len2 = at-fields2 .before .before .before .before .before in
+    let at-setup-len = at-setup-len2 .before .before .before .before in
+    let at-fields = at-setup-len .before .before .before .before in
+    let at-flag5 = at-fields .before .before .before .before .before .before .before .before .before .before in
+    let at-flag4 = at-flag5 .before .before in
+    let at-flag3 = at-flag4 .before in
+    let at-stored-part = at-flag3 .before .before in
+    let at-flag2 = at-stored-part .before .before .before .before in
+    let at-flag = at-flag2 .before in
+    let at-last-diagnostics = at-flag .before .before .before .before .before .before .before in
     then _ _ _ _ _
-    (simp (c .before .before .before .before .before .before .before .before .before .before .before .before .before .before .before .before .before .before .before .before .before .before .before .before .before .before .before .before .before .before .before .before .before .before .before .flag .ensures, c .before .before .before .before .before .before .before .before .before .before .before .before .before .before .before .before .before .before .before .before .before .before .before .before .before .before .before .before .before .before .before .before .before .before .flag2 .ensures, c .before .before .before .before .before .before .before .before .before .before .before .before .before .before .before .before .before .before .before .before .before .before .before .before .before .before .before .before .flag3 .ensures, c .before .before .before .before .before .before .before .before .before .before .before .before .before .before .before .before .before .before .before .before .before .before .before .before .before .before .before .flag4 .ensures, c .before .before .before .before .before .before .before .before .before .before .before .before .before .before .before .before .before .before .before .before .before .before .before .before .before .flag5 .ensures, c .before .before .before .before .before .before .before .before .before .before .before .before .before .before .before .before .before .before .before .before .before .before .before .before .before .before .before .before .before .before .stored-part .ensures, c .before .before .before .before .before .before .before .before .before .before .before .before .before .before .before .before .before .before .before .before .before .before .before .before .before .before .before .before .before .before .before .before .before .before .before .before .before .before .before .before .before .before .last-diagnostics .ensures) at (c .before .before .before .before .before .before .before .before .before .before .before .before .before .before .before .fields .ensures))
-    (then _ _ _ _ _ (c .before .before .before .before .before .before .before .before .before .before .before .setup-len .ensures) (then _ _ _ _ _ (c .before .before .before .before .before .before .before .setup-len2 .ensures) (c .before .before .fields2 .ensures)))
+    (simp (at-flag .flag .ensures, at-flag2 .flag2 .ensures, at-flag3 .flag3 .ensures, at-flag4 .flag4 .ensures, at-flag5 .flag5 .ensures, at-stored-part .stored-part .ensures, at-last-diagnostics .last-diagnostics .ensures) at (at-fields .fields .ensures))
+    (then _ _ _ _ _ (at-setup-len .setup-len .ensures) (then _ _ _ _ _ (at-setup-len2 .setup-len2 .ensures) (at-fields2 .fields2 .ensures)))
 
 pub slot-spec : {M : Type 1} → statement M
 slot-spec = tie.close (tie.spec last-diagnostics-requires cast-t15 cast-t16 cast-t17 cast-t18 flag-requires flag-requires-2 cast-t21 cast-t22 cast-t23 stored-part-requires cast-t25 cast-t26 flag-requires-3 flag-requires-4 cast-t29 flag-requires-5 cast-t14 cast-t30 cast-t29-2 cast-t28 cast-t27 cast-t26-2 cast-t25-2 slice-aggregate-fields fields-requires setup-len-requires setup-len-requires-2 slice-aggregate-fields-2 fields-requires-2 same-length returns)

@@ -43,18 +43,25 @@ loop-less c = omega arith
 
 loop-again : tie.Need-loop-again Inv-loop μ-loop
 loop-again c =
-    let i = c .before .before .before .before .before .before .loop .i in (
+    let at-slot-if = c .before .before in
+    let at-loop-test = at-slot-if .before .before .before in
+    let at-loop = at-loop-test .before in
+    let at-start = at-loop .before .before in
+    let i = at-loop .loop .i in (
       omega arith,
-      c .before .before .slot-if .kept .0 ∙ c .before .before .before .before .before .before .loop .inv .1,
-      left-to-write (slotsFrom (slotCount - i) (c .before .before .before .before .before .before .before .before .args .t3) (c .before .before .before .before .before .before .before .before .args .t4) i) (slotIf (getD (c .before .before .before .before .before .before .before .before .args .t3) i false) i (getD (c .before .before .before .before .before .before .before .before .args .t4) i blank)) (slotsFrom (slotCount - (i + 1)) (c .before .before .before .before .before .before .before .before .args .t3) (c .before .before .before .before .before .before .before .before .args .t4) (i + 1)) (standing (c .before .before .before .before .before .before .loop .next) (c .before .before .before .before .before .before .loop .out)) _ _
-          (slots-next slotCount (c .before .before .before .before .before .before .before .before .args .t3) (c .before .before .before .before .before .before .before .before .args .t4) i (c .before .before .before .before .before .loop-test .taken)) (c .before .before .slot-if .ensures) (c .before .before .before .before .before .before .loop .inv .2),
+      at-slot-if .slot-if .kept .0 ∙ at-loop .loop .inv .1,
+      left-to-write (slotsFrom (slotCount - i) (at-start .args .t3) (at-start .args .t4) i) (slotIf (getD (at-start .args .t3) i false) i (getD (at-start .args .t4) i blank)) (slotsFrom (slotCount - (i + 1)) (at-start .args .t3) (at-start .args .t4) (i + 1)) (standing (at-loop .loop .next) (at-loop .loop .out)) _ _
+          (slots-next slotCount (at-start .args .t3) (at-start .args .t4) i (at-loop-test .loop-test .taken)) (at-slot-if .slot-if .ensures) (at-loop .loop .inv .2),
     )
 
 same-length : tie.Need-same-length Inv-loop μ-loop
 same-length c = c .before .loop .inv .1
 
 returns : tie.Need-returns Inv-loop μ-loop
-returns c = all-written (slotsFrom (slotCount - c .before .loop .i) (c .before .before .before .args .t3) (c .before .before .before .args .t4) (c .before .loop .i)) _ _ (slots-end slotCount (c .before .before .before .args .t3) (c .before .before .before .args .t4) (c .before .loop .i) (c .loop-test .left)) (c .before .loop .inv .2)
+returns c =
+    let at-loop = c .before in
+    let at-start = at-loop .before .before in
+    all-written (slotsFrom (slotCount - at-loop .loop .i) (at-start .args .t3) (at-start .args .t4) (at-loop .loop .i)) _ _ (slots-end slotCount (at-start .args .t3) (at-start .args .t4) (at-loop .loop .i) (c .loop-test .left)) (at-loop .loop .inv .2)
 
 pub slots-spec : {M : Type 1} → statement M
 slots-spec = tie.close (tie.spec Inv-loop μ-loop loop-holds mul-p array-copy-out-p array-read-slot-if slot-if-requires add-i loop-less loop-again same-length returns)

@@ -36,7 +36,15 @@ same-length c = c .before .before .fields .kept .0
 
 returns : tie.Need-returns
 unfolding stateText
-returns c = simp (c .before .before .before .before .before .before .before .before .before .before .before .before .flag .ensures, c .before .before .before .before .before .before .before .before .before .before .before .time-of .ensures, c .before .before .before .before .before .before .before .before .before .before .flag2 .ensures, c .before .before .before .before .before .before .before .before .before .time-of2 .ensures, c .before .before .before .before .before .before .before .slot-of .ensures, c .before .before .before .before .before .slot-of2 .ensures) at (c .before .before .fields .ensures)
+returns c =
+    let at-fields = c .before .before in
+    let at-slot-of2 = at-fields .before .before .before in
+    let at-slot-of = at-slot-of2 .before .before in
+    let at-time-of2 = at-slot-of .before .before in
+    let at-flag2 = at-time-of2 .before in
+    let at-time-of = at-flag2 .before in
+    let at-flag = at-time-of .before in
+    simp (at-flag .flag .ensures, at-time-of .time-of .ensures, at-flag2 .flag2 .ensures, at-time-of2 .time-of2 .ensures, at-slot-of .slot-of .ensures, at-slot-of2 .slot-of2 .ensures) at (at-fields .fields .ensures)
 
 pub state-spec : {M : Type 1} → statement M
 state-spec = tie.close (tie.spec cast-t5 flag-requires time-of-requires flag-requires-2 time-of-requires-2 slot-of-requires slot-of-requires-2 slice-aggregate-fields fields-requires same-length returns)
