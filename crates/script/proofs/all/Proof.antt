@@ -36,9 +36,12 @@ loop-less c = c .left .ensures
 
 loop-again : tie.Need-loop-again Inv-loop μ-loop
 loop-again c =
-    let p = c .before .before .before .before .before .before .before .before .before .before .before .before .before .before .before .before .before .lines-of .kept in
-    let r = c .before .before .before .before .before .before .before .before .before .before .before .before .before .before .before .before .before .before .before .before .before .before .before .before .before .before .before .before .before .before .read-some .kept in
-    let v = c .before .before .before .before .before .before .before .before .before .before .before .before .before .before .before .before .before .before .before .before .before .before .before .before .before .before .before .before .before .before .before .before .before .loop .inv in
+    let at-lines-of = c .before .before .before .before .before .before .before .before .before .before .before .before .before .before .before .before .before in
+    let at-read-some = at-lines-of .before .before .before .before .before .before .before .before .before .before .before .before .before in
+    let at-loop = at-read-some .before .before .before in
+    let p = at-lines-of .lines-of .kept in
+    let r = at-read-some .read-some .kept in
+    let v = at-loop .loop .inv in
     (p .1 .1 .0 ∙ v .0, p .1 .1 .1 .0 ∙ v .1, p .1 .1 .1 .1 .0 ∙ v .2, p .1 .1 .1 .1 .1 .0 ∙ v .3, p .1 .1 .1 .1 .1 .1 .0 ∙ v .4, p .1 .1 .1 .1 .1 .1 .1 .0 ∙ v .5, p .1 .1 .1 .1 .1 .1 .1 .1 .0 ∙ v .6, r .0 ∙ v .7, p .1 .1 .1 .1 .1 .1 .1 .1 .1 .0 ∙ v .8)
 
 finish-requires : tie.Need-finish-requires Inv-loop μ-loop

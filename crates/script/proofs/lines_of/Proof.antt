@@ -22,7 +22,10 @@ line-end-requires : tie.Need-line-end-requires Inv-loop μ-loop
 line-end-requires c κs = tt
 
 sub-part : tie.Need-sub-part Inv-loop μ-loop
-sub-part c = omega (arith, c .line-end .ensures, newline-from (c .before .before .before .before .before .before .before .before .before .before .before .before .args .chunk .now) (length (c .before .before .before .before .before .before .before .before .before .before .before .before .args .chunk .now) - c .before .before .loop .i) (c .before .before .loop .i), newline-to (c .before .before .before .before .before .before .before .before .before .before .before .before .args .chunk .now) (length (c .before .before .before .before .before .before .before .before .before .before .before .before .args .chunk .now) - c .before .before .loop .i) (c .before .before .loop .i))
+sub-part c =
+    let at-loop = c .before .before in
+    let at-start = at-loop .before .before .before .before .before .before .before .before .before .before in
+    omega (arith, c .line-end .ensures, newline-from (at-start .args .chunk .now) (length (at-start .args .chunk .now) - at-loop .loop .i) (at-loop .loop .i), newline-to (at-start .args .chunk .now) (length (at-start .args .chunk .now) - at-loop .loop .i) (at-loop .loop .i))
 
 part-requires : tie.Need-part-requires Inv-loop μ-loop
 part-requires c κs = tt
@@ -31,15 +34,27 @@ piece-requires : tie.Need-piece-requires Inv-loop μ-loop
 piece-requires c κs = tt
 
 add-i : tie.Need-add-i Inv-loop μ-loop
-add-i c = omega (arith, c .before .before .before .before .before .before .before .before .before .before .before .before .before .before .before .before .before .before .before .before .before .before .before .before .before .before .line-end .ensures, newline-from (c .before .before .before .before .before .before .before .before .before .before .before .before .before .before .before .before .before .before .before .before .before .before .before .before .before .before .before .before .before .before .before .before .before .before .before .before .before .before .args .chunk .now) (length (c .before .before .before .before .before .before .before .before .before .before .before .before .before .before .before .before .before .before .before .before .before .before .before .before .before .before .before .before .before .before .before .before .before .before .before .before .before .before .args .chunk .now) - c .before .before .before .before .before .before .before .before .before .before .before .before .before .before .before .before .before .before .before .before .before .before .before .before .before .before .before .before .loop .i) (c .before .before .before .before .before .before .before .before .before .before .before .before .before .before .before .before .before .before .before .before .before .before .before .before .before .before .before .before .loop .i), newline-to (c .before .before .before .before .before .before .before .before .before .before .before .before .before .before .before .before .before .before .before .before .before .before .before .before .before .before .before .before .before .before .before .before .before .before .before .before .before .before .args .chunk .now) (length (c .before .before .before .before .before .before .before .before .before .before .before .before .before .before .before .before .before .before .before .before .before .before .before .before .before .before .before .before .before .before .before .before .before .before .before .before .before .before .args .chunk .now) - c .before .before .before .before .before .before .before .before .before .before .before .before .before .before .before .before .before .before .before .before .before .before .before .before .before .before .before .before .loop .i) (c .before .before .before .before .before .before .before .before .before .before .before .before .before .before .before .before .before .before .before .before .before .before .before .before .before .before .before .before .loop .i), c .before .before .before .before .before .before .before .before .before .before .before .before .before .before .before .before .before .before .before .before .before .before .before .before .before .before .before .before .before .before .before .before .before .before .before .before .before .before .good, c .before .before .before .before .before .before .before .before .before .before .before .before .before .before .before .before .before .before .before .before .before .before .before .before .before .before .before .loop-test .taken)
+add-i c =
+    let at-line-end = c .before .before .before .before .before .before .before .before .before .before .before .before .before .before .before .before .before .before .before .before .before .before .before .before .before .before in
+    let at-loop-test = at-line-end .before in
+    let at-loop = at-loop-test .before in
+    let at-start = at-loop .before .before .before .before .before .before .before .before .before .before in
+    omega (arith, at-line-end .line-end .ensures, newline-from (at-start .args .chunk .now) (length (at-start .args .chunk .now) - at-loop .loop .i) (at-loop .loop .i), newline-to (at-start .args .chunk .now) (length (at-start .args .chunk .now) - at-loop .loop .i) (at-loop .loop .i), at-start .good, at-loop-test .loop-test .taken)
 
 loop-less : tie.Need-loop-less Inv-loop μ-loop
-loop-less c = omega (arith, c .before .before .before .before .before .before .before .before .before .before .before .before .before .before .before .before .before .before .before .before .before .before .before .before .before .before .line-end .ensures, newline-from (c .before .before .before .before .before .before .before .before .before .before .before .before .before .before .before .before .before .before .before .before .before .before .before .before .before .before .before .before .before .before .before .before .before .before .before .before .before .before .args .chunk .now) (length (c .before .before .before .before .before .before .before .before .before .before .before .before .before .before .before .before .before .before .before .before .before .before .before .before .before .before .before .before .before .before .before .before .before .before .before .before .before .before .args .chunk .now) - c .before .before .before .before .before .before .before .before .before .before .before .before .before .before .before .before .before .before .before .before .before .before .before .before .before .before .before .before .loop .i) (c .before .before .before .before .before .before .before .before .before .before .before .before .before .before .before .before .before .before .before .before .before .before .before .before .before .before .before .before .loop .i), newline-to (c .before .before .before .before .before .before .before .before .before .before .before .before .before .before .before .before .before .before .before .before .before .before .before .before .before .before .before .before .before .before .before .before .before .before .before .before .before .before .args .chunk .now) (length (c .before .before .before .before .before .before .before .before .before .before .before .before .before .before .before .before .before .before .before .before .before .before .before .before .before .before .before .before .before .before .before .before .before .before .before .before .before .before .args .chunk .now) - c .before .before .before .before .before .before .before .before .before .before .before .before .before .before .before .before .before .before .before .before .before .before .before .before .before .before .before .before .loop .i) (c .before .before .before .before .before .before .before .before .before .before .before .before .before .before .before .before .before .before .before .before .before .before .before .before .before .before .before .before .loop .i), c .before .before .before .before .before .before .before .before .before .before .before .before .before .before .before .before .before .before .before .before .before .before .before .before .before .before .before .loop-test .taken)
+loop-less c =
+    let at-line-end = c .before .before .before .before .before .before .before .before .before .before .before .before .before .before .before .before .before .before .before .before .before .before .before .before .before .before in
+    let at-loop-test = at-line-end .before in
+    let at-loop = at-loop-test .before in
+    let at-start = at-loop .before .before .before .before .before .before .before .before .before .before in
+    omega (arith, at-line-end .line-end .ensures, newline-from (at-start .args .chunk .now) (length (at-start .args .chunk .now) - at-loop .loop .i) (at-loop .loop .i), newline-to (at-start .args .chunk .now) (length (at-start .args .chunk .now) - at-loop .loop .i) (at-loop .loop .i), at-loop-test .loop-test .taken)
 
 loop-again : tie.Need-loop-again Inv-loop μ-loop
 loop-again c =
-    let p = c .before .before .before .before .before .before .before .before .before .before .before .before .before .before .before .before .piece .kept in
-    let v = c .before .before .before .before .before .before .before .before .before .before .before .before .before .before .before .before .before .before .before .before .before .before .before .before .before .before .before .before .loop .inv in
+    let at-piece = c .before .before .before .before .before .before .before .before .before .before .before .before .before .before .before .before in
+    let at-loop = at-piece .before .before .before .before .before .before .before .before .before .before .before .before in
+    let p = at-piece .piece .kept in
+    let v = at-loop .loop .inv in
     (p .1 .1 .1 .0 ∙ v .0, p .1 .1 .1 .1 .0 ∙ v .1, p .1 .1 .1 .1 .1 .0 ∙ v .2, p .1 .1 .1 .1 .1 .1 .0 ∙ v .3, p .1 .1 .1 .1 .1 .1 .1 .0 ∙ v .4, p .1 .1 .1 .1 .1 .1 .1 .1 .0 ∙ v .5, p .1 .1 .1 .1 .1 .1 .1 .1 .1 .0 ∙ v .6, p .1 .1 .1 .1 .1 .1 .1 .1 .1 .1 .0 ∙ v .7)
 
 same-length : tie.Need-same-length Inv-loop μ-loop

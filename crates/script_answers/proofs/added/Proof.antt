@@ -38,11 +38,20 @@ put-requires-2 : tie.Need-put-requires-2
 put-requires-2 c κs = search needs
 
 same-length-2 : tie.Need-same-length-2
-same-length-2 c = c .before .before .put2 .kept .0 ∙ c .before .before .before .before .before .before .fields .kept .0 ∙ c .before .before .before .before .before .before .before .before .before .before .before .put .kept .0
+same-length-2 c =
+    let at-put2 = c .before .before in
+    let at-fields = at-put2 .before .before .before .before in
+    let at-put = at-fields .before .before .before .before .before in
+    at-put2 .put2 .kept .0 ∙ at-fields .fields .kept .0 ∙ at-put .put .kept .0
 
 returns-2 : tie.Need-returns-2
 unfolding addedText
-returns-2 c = rw (eq-eqb _ _ (c .before .before .before .before .before .before .before .before .before .before .before .before .before .before .before .if1 .left)) (then (0x41 ∷ []) _ _ _ _ (c .before .before .before .before .before .before .before .before .before .before .before .put .ensures) (then _ newline _ _ _ (c .before .before .before .before .before .before .fields .ensures) (c .before .before .put2 .ensures)))
+returns-2 c =
+    let at-put2 = c .before .before in
+    let at-fields = at-put2 .before .before .before .before in
+    let at-put = at-fields .before .before .before .before .before in
+    let at-if1 = at-put .before .before .before .before in
+    rw (eq-eqb _ _ (at-if1 .if1 .left)) (then (0x41 ∷ []) _ _ _ _ (at-put .put .ensures) (then _ newline _ _ _ (at-fields .fields .ensures) (at-put2 .put2 .ensures)))
 
 pub added-spec : {M : Type 1} → statement M
 added-spec = tie.close (tie.spec numbered-requires same-length returns cast-t12 cast-t13 put-requires slice-aggregate-fields fields-requires put-requires-2 same-length-2 returns-2)

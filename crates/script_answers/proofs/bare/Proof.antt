@@ -16,7 +16,11 @@ same-length : tie.Need-same-length
 same-length c = c .before .before .put2 .kept .0 ∙ c .before .before .before .before .before .before .put .kept .0
 
 returns : tie.Need-returns
-returns c = then (c .before .before .before .before .before .before .before .before .before .args .letter ∷ []) (10 ∷ []) _ _ _ (c .before .before .before .before .before .before .put .ensures) (c .before .before .put2 .ensures)
+returns c =
+    let at-put2 = c .before .before in
+    let at-put = at-put2 .before .before .before .before in
+    let at-start = at-put .before .before .before in
+    then (at-start .args .letter ∷ []) (10 ∷ []) _ _ _ (at-put .put .ensures) (at-put2 .put2 .ensures)
 
 pub bare-spec : {M : Type 1} → statement M
 bare-spec = tie.close (tie.spec put-requires put-requires-2 same-length returns)

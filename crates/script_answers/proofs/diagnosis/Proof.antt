@@ -36,13 +36,23 @@ put-requires-2 : tie.Need-put-requires-2
 put-requires-2 c κs = search needs
 
 same-length : tie.Need-same-length
-same-length c = c .before .before .put2 .kept .0 ∙ c .before .before .before .before .before .before .bytes .kept .0 ∙ c .before .before .before .before .before .before .before .before .before .before .fields .kept .0 ∙ c .before .before .before .before .before .before .before .before .before .before .before .before .before .before .before .put .kept .0
+same-length c =
+    let at-put2 = c .before .before in
+    let at-bytes = at-put2 .before .before .before .before in
+    let at-fields = at-bytes .before .before .before .before in
+    let at-put = at-fields .before .before .before .before .before in
+    at-put2 .put2 .kept .0 ∙ at-bytes .bytes .kept .0 ∙ at-fields .fields .kept .0 ∙ at-put .put .kept .0
 
 returns : tie.Need-returns
 unfolding diagnosisText
 returns c =
-    then (0x47 ∷ []) _ _ _ _ (c .before .before .before .before .before .before .before .before .before .before .before .before .before .before .before .put .ensures)
-    (then _ _ _ _ _ (simp (c .before .before .before .before .before .before .before .before .before .before .before .before .before .before .before .before .before .before .before .before .flag .ensures) at (c .before .before .before .before .before .before .before .before .before .before .fields .ensures)) (then _ newline _ _ _ (c .before .before .before .before .before .before .bytes .ensures) (c .before .before .put2 .ensures)))
+    let at-put2 = c .before .before in
+    let at-bytes = at-put2 .before .before .before .before in
+    let at-fields = at-bytes .before .before .before .before in
+    let at-put = at-fields .before .before .before .before .before in
+    let at-flag = at-put .before .before .before .before .before in
+    then (0x47 ∷ []) _ _ _ _ (at-put .put .ensures)
+    (then _ _ _ _ _ (simp (at-flag .flag .ensures) at (at-fields .fields .ensures)) (then _ newline _ _ _ (at-bytes .bytes .ensures) (at-put2 .put2 .ensures)))
 
 pub diagnosis-spec : {M : Type 1} → statement M
 diagnosis-spec = tie.close (tie.spec flag-requires cast-t12 cast-t13 cast-t14 put-requires slice-aggregate-fields fields-requires bytes-requires put-requires-2 same-length returns)

@@ -50,7 +50,14 @@ same-length c = c .before .before .bytes .kept .0 ∙ c .before .before .before 
 
 returns : tie.Need-returns
 unfolding headerText
-returns c = then _ _ _ _ _ (simp (c .before .before .before .before .before .before .before .before .before .before .before .before .number .ensures, c .before .before .before .before .before .before .before .before .before .before .before .number2 .ensures, c .before .before .before .before .before .before .before .before .before .before .number3 .ensures, c .before .before .before .before .before .before .before .before .before .number4 .ensures) at (c .before .before .before .before .before .before .fields .ensures)) (c .before .before .bytes .ensures)
+returns c =
+    let at-bytes = c .before .before in
+    let at-fields = at-bytes .before .before .before .before in
+    let at-number4 = at-fields .before .before .before in
+    let at-number3 = at-number4 .before in
+    let at-number2 = at-number3 .before in
+    let at-number = at-number2 .before in
+    then _ _ _ _ _ (simp (at-number .number .ensures, at-number2 .number2 .ensures, at-number3 .number3 .ensures, at-number4 .number4 .ensures) at (at-fields .fields .ensures)) (at-bytes .bytes .ensures)
 
 pub header-spec : {M : Type 1} → statement M
 header-spec = tie.close (tie.spec cast-t12 cast-t13 number-requires cast-t15 number-requires-2 cast-t17 number-requires-3 cast-t19 number-requires-4 cast-t21 slice-aggregate-fields fields-requires bytes-requires same-length returns)

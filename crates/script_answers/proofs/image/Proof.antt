@@ -24,11 +24,22 @@ put-requires-2 : tie.Need-put-requires-2
 put-requires-2 c κs = search needs
 
 same-length : tie.Need-same-length
-same-length c = c .before .before .put2 .kept .0 ∙ c .before .before .before .before .before .before .bytes .kept .0 ∙ c .before .before .before .before .before .before .before .before .before .before .fields .kept .0 ∙ c .before .before .before .before .before .before .before .before .before .before .before .before .before .before .before .put .kept .0
+same-length c =
+    let at-put2 = c .before .before in
+    let at-bytes = at-put2 .before .before .before .before in
+    let at-fields = at-bytes .before .before .before .before in
+    let at-put = at-fields .before .before .before .before .before in
+    at-put2 .put2 .kept .0 ∙ at-bytes .bytes .kept .0 ∙ at-fields .fields .kept .0 ∙ at-put .put .kept .0
 
 returns : tie.Need-returns
 unfolding imageText
-returns c = then (c .before .before .before .before .before .before .before .before .before .before .before .before .before .before .before .before .before .before .before .args .letter ∷ []) _ _ _ _ (c .before .before .before .before .before .before .before .before .before .before .before .before .before .before .before .put .ensures) (then _ _ _ _ _ (c .before .before .before .before .before .before .before .before .before .before .fields .ensures) (then _ newline _ _ _ (c .before .before .before .before .before .before .bytes .ensures) (c .before .before .put2 .ensures)))
+returns c =
+    let at-put2 = c .before .before in
+    let at-bytes = at-put2 .before .before .before .before in
+    let at-fields = at-bytes .before .before .before .before in
+    let at-put = at-fields .before .before .before .before .before in
+    let at-start = at-put .before .before .before .before in
+    then (at-start .args .letter ∷ []) _ _ _ _ (at-put .put .ensures) (then _ _ _ _ _ (at-fields .fields .ensures) (then _ newline _ _ _ (at-bytes .bytes .ensures) (at-put2 .put2 .ensures)))
 
 pub image-spec : {M : Type 1} → statement M
 image-spec = tie.close (tie.spec put-requires slice-aggregate-fields fields-requires bytes-requires put-requires-2 same-length returns)

@@ -30,14 +30,26 @@ put-requires-2 : tie.Need-put-requires-2
 put-requires-2 c κs = search needs
 
 same-length : tie.Need-same-length
-same-length c = c .before .before .put2 .kept .0 ∙ c .before .before .before .before .before .before .field .kept .0 ∙ c .before .before .before .before .before .before .before .before .before .before .before .byte-fields .kept .0 ∙ c .before .before .before .before .before .before .before .before .before .before .before .before .before .before .before .fields .kept .0 ∙ c .before .before .before .before .before .before .before .before .before .before .before .before .before .before .before .before .before .before .before .before .put .kept .0
+same-length c =
+    let at-put2 = c .before .before in
+    let at-field = at-put2 .before .before .before .before in
+    let at-byte-fields = at-field .before .before .before .before .before in
+    let at-fields = at-byte-fields .before .before .before .before in
+    let at-put = at-fields .before .before .before .before .before in
+    at-put2 .put2 .kept .0 ∙ at-field .field .kept .0 ∙ at-byte-fields .byte-fields .kept .0 ∙ at-fields .fields .kept .0 ∙ at-put .put .kept .0
 
 returns : tie.Need-returns
 unfolding listingText
 returns c =
-    then (0x48 ∷ []) _ _ _ _ (c .before .before .before .before .before .before .before .before .before .before .before .before .before .before .before .before .before .before .before .before .put .ensures)
-    (then _ _ _ _ _ (c .before .before .before .before .before .before .before .before .before .before .before .before .before .before .before .fields .ensures)
-    (then _ _ _ _ _ (c .before .before .before .before .before .before .before .before .before .before .before .byte-fields .ensures) (then _ newline _ _ _ (simp (c .before .before .before .before .before .before .before .sum .ensures) at (c .before .before .before .before .before .before .field .ensures)) (c .before .before .put2 .ensures))))
+    let at-put2 = c .before .before in
+    let at-field = at-put2 .before .before .before .before in
+    let at-sum = at-field .before in
+    let at-byte-fields = at-sum .before .before .before .before in
+    let at-fields = at-byte-fields .before .before .before .before in
+    let at-put = at-fields .before .before .before .before .before in
+    then (0x48 ∷ []) _ _ _ _ (at-put .put .ensures)
+    (then _ _ _ _ _ (at-fields .fields .ensures)
+    (then _ _ _ _ _ (at-byte-fields .byte-fields .ensures) (then _ newline _ _ _ (simp (at-sum .sum .ensures) at (at-field .field .ensures)) (at-put2 .put2 .ensures))))
 
 pub listing-spec : {M : Type 1} → statement M
 listing-spec = tie.close (tie.spec put-requires slice-aggregate-fields fields-requires byte-fields-requires sum-requires field-requires put-requires-2 same-length returns)

@@ -17,10 +17,19 @@ put-requires-2 : tie.Need-put-requires-2
 put-requires-2 c κs = search needs
 
 same-length : tie.Need-same-length
-same-length c = c .before .before .put2 .kept .0 ∙ c .before .before .before .before .before .before .field .kept .0 ∙ c .before .before .before .before .before .before .before .before .before .before .put .kept .0
+same-length c =
+    let at-put2 = c .before .before in
+    let at-field = at-put2 .before .before .before .before in
+    let at-put = at-field .before .before .before .before in
+    at-put2 .put2 .kept .0 ∙ at-field .field .kept .0 ∙ at-put .put .kept .0
 
 returns : tie.Need-returns
-returns c = then (c .before .before .before .before .before .before .before .before .before .before .before .before .before .args .letter ∷ []) _ _ _ _ (c .before .before .before .before .before .before .before .before .before .before .put .ensures) (then (fieldText (c .before .before .before .before .before .before .before .before .before .before .before .before .before .args .n)) newline _ _ _ (c .before .before .before .before .before .before .field .ensures) (c .before .before .put2 .ensures))
+returns c =
+    let at-put2 = c .before .before in
+    let at-field = at-put2 .before .before .before .before in
+    let at-put = at-field .before .before .before .before in
+    let at-start = at-put .before .before .before in
+    then (at-start .args .letter ∷ []) _ _ _ _ (at-put .put .ensures) (then (fieldText (at-start .args .n)) newline _ _ _ (at-field .field .ensures) (at-put2 .put2 .ensures))
 
 pub numbered-spec : {M : Type 1} → statement M
 numbered-spec = tie.close (tie.spec put-requires field-requires put-requires-2 same-length returns)

@@ -36,11 +36,21 @@ put-requires-2 : tie.Need-put-requires-2
 put-requires-2 c κs = search needs
 
 same-length : tie.Need-same-length
-same-length c = c .before .before .put2 .kept .0 ∙ c .before .before .before .before .before .before .fields .kept .0 ∙ c .before .before .before .before .before .before .before .before .before .before .before .put .kept .0
+same-length c =
+    let at-put2 = c .before .before in
+    let at-fields = at-put2 .before .before .before .before in
+    let at-put = at-fields .before .before .before .before .before in
+    at-put2 .put2 .kept .0 ∙ at-fields .fields .kept .0 ∙ at-put .put .kept .0
 
 returns : tie.Need-returns
 unfolding replyText
-returns c = then (0x52 ∷ []) _ _ _ _ (c .before .before .before .before .before .before .before .before .before .before .before .put .ensures) (then _ newline _ _ _ (simp (c .before .before .before .before .before .before .before .before .before .before .before .before .before .before .before .flag .ensures, c .before .before .before .before .before .before .before .before .before .before .before .before .before .before .number .ensures) at (c .before .before .before .before .before .before .fields .ensures)) (c .before .before .put2 .ensures))
+returns c =
+    let at-put2 = c .before .before in
+    let at-fields = at-put2 .before .before .before .before in
+    let at-put = at-fields .before .before .before .before .before in
+    let at-number = at-put .before .before .before in
+    let at-flag = at-number .before in
+    then (0x52 ∷ []) _ _ _ _ (at-put .put .ensures) (then _ newline _ _ _ (simp (at-flag .flag .ensures, at-number .number .ensures) at (at-fields .fields .ensures)) (at-put2 .put2 .ensures))
 
 pub reply-spec : {M : Type 1} → statement M
 reply-spec = tie.close (tie.spec cast-t9 flag-requires number-requires cast-t12 cast-t13 put-requires slice-aggregate-fields fields-requires put-requires-2 same-length returns)

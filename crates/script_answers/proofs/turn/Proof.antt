@@ -45,13 +45,25 @@ put-requires-2 : tie.Need-put-requires-2
 put-requires-2 c κs = search needs
 
 same-length : tie.Need-same-length
-same-length c = c .before .before .put2 .kept .0 ∙ c .before .before .before .before .before .before .transmission .kept .0 ∙ c .before .before .before .before .before .before .before .before .before .before .fields .kept .0 ∙ c .before .before .before .before .before .before .before .before .before .before .before .before .before .before .before .put .kept .0
+same-length c =
+    let at-put2 = c .before .before in
+    let at-transmission = at-put2 .before .before .before .before in
+    let at-fields = at-transmission .before .before .before .before in
+    let at-put = at-fields .before .before .before .before .before in
+    at-put2 .put2 .kept .0 ∙ at-transmission .transmission .kept .0 ∙ at-fields .fields .kept .0 ∙ at-put .put .kept .0
 
 returns : tie.Need-returns
 unfolding turnText
 returns c =
-    then (0x54 ∷ []) _ _ _ _ (c .before .before .before .before .before .before .before .before .before .before .before .before .before .before .before .put .ensures)
-    (then _ _ _ _ _ (simp (c .before .before .before .before .before .before .before .before .before .before .before .before .before .before .before .before .before .before .before .before .before .flag .ensures, c .before .before .before .before .before .before .before .before .before .before .before .before .before .before .before .before .before .before .before .number .ensures, c .before .before .before .before .before .before .before .before .before .before .before .before .before .before .before .before .before .sent .ensures) at (c .before .before .before .before .before .before .before .before .before .before .fields .ensures)) (then _ newline _ _ _ (c .before .before .before .before .before .before .transmission .ensures) (c .before .before .put2 .ensures)))
+    let at-put2 = c .before .before in
+    let at-transmission = at-put2 .before .before .before .before in
+    let at-fields = at-transmission .before .before .before .before in
+    let at-put = at-fields .before .before .before .before .before in
+    let at-sent = at-put .before .before in
+    let at-number = at-sent .before .before in
+    let at-flag = at-number .before .before in
+    then (0x54 ∷ []) _ _ _ _ (at-put .put .ensures)
+    (then _ _ _ _ _ (simp (at-flag .flag .ensures, at-number .number .ensures, at-sent .sent .ensures) at (at-fields .fields .ensures)) (then _ newline _ _ _ (at-transmission .transmission .ensures) (at-put2 .put2 .ensures)))
 
 pub turn-spec : {M : Type 1} → statement M
 turn-spec = tie.close (tie.spec cast-t12 flag-requires cast-t14 number-requires cast-t16 cast-t17 sent-requires put-requires slice-aggregate-fields fields-requires transmission-requires put-requires-2 same-length returns)

@@ -25,10 +25,14 @@ ending-requires c κs = search needs
 returns : tie.Need-returns
 unfolding addCall
 returns c =
+    let at-lengths = c .before .before in
+    let at-setup2 = at-lengths .before in
+    let at-setup = at-setup2 .before .before in
+    let at-stem = at-setup .before .before in
     record {
-      answer = simp (c .ending .ensures, c .before .addition .ensures, c .before .before .lengths .ensures, c .before .before .before .setup2 .ensures .answer, c .before .before .before .before .before .setup .ensures .answer, c .before .before .before .before .before .before .before .stem .ensures);
-      first = simp (c .before .before .before .before .before .before .before .stem .ensures) at (c .before .before .before .before .before .setup .ensures .bytes);
-      second = simp (c .before .before .before .before .before .setup .ensures .answer, c .before .before .before .before .before .before .before .stem .ensures) at (c .before .before .before .setup2 .ensures .bytes);
+      answer = simp (c .ending .ensures, c .before .addition .ensures, at-lengths .lengths .ensures, at-setup2 .setup2 .ensures .answer, at-setup .setup .ensures .answer, at-stem .stem .ensures);
+      first = simp (at-stem .stem .ensures) at (at-setup .setup .ensures .bytes);
+      second = simp (at-setup .setup .ensures .answer, at-stem .stem .ensures) at (at-setup2 .setup2 .ensures .bytes);
     }
 
 pub add-spec : {M : Type 1} → statement M

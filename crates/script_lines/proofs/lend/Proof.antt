@@ -27,7 +27,13 @@ ending-requires c κs = search needs
 
 returns : tie.Need-returns
 unfolding lendCall
-returns c = simp (c .ending .ensures, c .before .wide-number6 .ensures, c .before .before .wide-number5 .ensures, c .before .before .before .wide-number4 .ensures, c .before .before .before .before .wide-number3 .ensures, c .before .before .before .before .before .wide-number2 .ensures, c .before .before .before .before .before .before .wide-number .ensures)
+returns c =
+    let at-wide-number5 = c .before .before in
+    let at-wide-number4 = at-wide-number5 .before in
+    let at-wide-number3 = at-wide-number4 .before in
+    let at-wide-number2 = at-wide-number3 .before in
+    let at-wide-number = at-wide-number2 .before in
+    simp (c .ending .ensures, c .before .wide-number6 .ensures, at-wide-number5 .wide-number5 .ensures, at-wide-number4 .wide-number4 .ensures, at-wide-number3 .wide-number3 .ensures, at-wide-number2 .wide-number2 .ensures, at-wide-number .wide-number .ensures)
 
 pub lend-spec : {M : Type 1} → statement M
 lend-spec = tie.close (tie.spec wide-number-requires wide-number-requires-2 wide-number-requires-3 wide-number-requires-4 wide-number-requires-5 wide-number-requires-6 ending-requires returns)

@@ -42,7 +42,18 @@ ending-requires c κs = search needs
 
 returns : tie.Need-returns
 unfolding newCall
-returns c = simp (c .ending .ensures, c .before .wide-number4 .ensures, c .before .before .wide-number3 .ensures, c .before .before .before .wide-number2 .ensures, c .before .before .before .before .wide-number .ensures, c .before .before .before .before .before .small5 .ensures, c .before .before .before .before .before .before .small4 .ensures, c .before .before .before .before .before .before .before .small3 .ensures, c .before .before .before .before .before .before .before .before .flag .ensures, c .before .before .before .before .before .before .before .before .before .word .ensures, c .before .before .before .before .before .before .before .before .before .before .small2 .ensures, c .before .before .before .before .before .before .before .before .before .before .before .small .ensures)
+returns c =
+    let at-wide-number3 = c .before .before in
+    let at-wide-number2 = at-wide-number3 .before in
+    let at-wide-number = at-wide-number2 .before in
+    let at-small5 = at-wide-number .before in
+    let at-small4 = at-small5 .before in
+    let at-small3 = at-small4 .before in
+    let at-flag = at-small3 .before in
+    let at-word = at-flag .before in
+    let at-small2 = at-word .before in
+    let at-small = at-small2 .before in
+    simp (c .ending .ensures, c .before .wide-number4 .ensures, at-wide-number3 .wide-number3 .ensures, at-wide-number2 .wide-number2 .ensures, at-wide-number .wide-number .ensures, at-small5 .small5 .ensures, at-small4 .small4 .ensures, at-small3 .small3 .ensures, at-flag .flag .ensures, at-word .word .ensures, at-small2 .small2 .ensures, at-small .small .ensures)
 
 pub new-spec : {M : Type 1} → statement M
 new-spec = tie.close (tie.spec small-requires small-requires-2 word-requires flag-requires small-requires-3 small-requires-4 small-requires-5 wide-number-requires wide-number-requires-2 wide-number-requires-3 wide-number-requires-4 ending-requires returns)

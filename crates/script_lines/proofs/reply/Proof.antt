@@ -31,9 +31,15 @@ ending-requires c κs = search needs
 returns : tie.Need-returns
 unfolding replyCall
 returns c =
+    let at-bytes = c .before .before in
+    let at-small5 = at-bytes .before .before in
+    let at-small4 = at-small5 .before in
+    let at-small3 = at-small4 .before in
+    let at-small2 = at-small3 .before in
+    let at-small = at-small2 .before in
     record {
-      answer = simp (c .ending .ensures, c .before .reply-of .ensures, c .before .before .bytes .ensures .answer, c .before .before .before .before .small5 .ensures, c .before .before .before .before .before .small4 .ensures, c .before .before .before .before .before .before .small3 .ensures, c .before .before .before .before .before .before .before .small2 .ensures, c .before .before .before .before .before .before .before .before .small .ensures);
-      first = simp (c .before .before .before .before .small5 .ensures, c .before .before .before .before .before .small4 .ensures, c .before .before .before .before .before .before .small3 .ensures, c .before .before .before .before .before .before .before .small2 .ensures, c .before .before .before .before .before .before .before .before .small .ensures) at (c .before .before .bytes .ensures .bytes);
+      answer = simp (c .ending .ensures, c .before .reply-of .ensures, at-bytes .bytes .ensures .answer, at-small5 .small5 .ensures, at-small4 .small4 .ensures, at-small3 .small3 .ensures, at-small2 .small2 .ensures, at-small .small .ensures);
+      first = simp (at-small5 .small5 .ensures, at-small4 .small4 .ensures, at-small3 .small3 .ensures, at-small2 .small2 .ensures, at-small .small .ensures) at (at-bytes .bytes .ensures .bytes);
     }
 
 pub reply-spec : {M : Type 1} → statement M

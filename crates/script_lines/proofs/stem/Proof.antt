@@ -24,7 +24,13 @@ flag-requires-3 c κs = search needs
 
 returns : tie.Need-returns
 unfolding stemAt
-returns c = simp (c .before .flag3 .ensures, c .before .before .small2 .ensures, c .before .before .before .flag2 .ensures, c .before .before .before .before .flag .ensures, c .before .before .before .before .before .wide-number .ensures, c .before .before .before .before .before .before .small .ensures)
+returns c =
+    let at-small2 = c .before .before in
+    let at-flag2 = at-small2 .before in
+    let at-flag = at-flag2 .before in
+    let at-wide-number = at-flag .before in
+    let at-small = at-wide-number .before in
+    simp (c .before .flag3 .ensures, at-small2 .small2 .ensures, at-flag2 .flag2 .ensures, at-flag .flag .ensures, at-wide-number .wide-number .ensures, at-small .small .ensures)
 
 pub stem-spec : {M : Type 1} → statement M
 stem-spec = tie.close (tie.spec small-requires wide-number-requires flag-requires flag-requires-2 small-requires-2 flag-requires-3 returns)

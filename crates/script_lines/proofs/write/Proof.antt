@@ -16,9 +16,11 @@ ending-requires c κs = search needs
 returns : tie.Need-returns
 unfolding writeCall
 returns c =
+    let at-bytes = c .before .before in
+    let at-handle = at-bytes .before .before in
     record {
-      answer = simp (c .ending .ensures, c .before .before .bytes .ensures .answer, c .before .before .before .before .handle .ensures);
-      first = simp (c .before .before .before .before .handle .ensures) at (c .before .before .bytes .ensures .bytes);
+      answer = simp (c .ending .ensures, at-bytes .bytes .ensures .answer, at-handle .handle .ensures);
+      first = simp (at-handle .handle .ensures) at (at-bytes .bytes .ensures .bytes);
     }
 
 pub write-spec : {M : Type 1} → statement M

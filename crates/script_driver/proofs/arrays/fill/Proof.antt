@@ -37,13 +37,19 @@ loop-less : tie.Need-loop-less Inv-loop μ-loop
 loop-less c = simp length-set (omega arith)
 
 loop-again : tie.Need-loop-again Inv-loop μ-loop
-loop-again c = (simp length-set (omega arith), simp length-set (c .before .loop .inv .1), ap (λ (l : List ℕ). set l (c .before .loop .i) (c .before .before .args .b)) (c .before .loop .inv .2) ∙ fill-more (c .before .loop .i) (c .before .before .args .b) (c .before .before .args .dst .now) (omega arith))
+loop-again c =
+    let at-loop = c .before in
+    let at-start = at-loop .before in
+    (simp length-set (omega arith), simp length-set (at-loop .loop .inv .1), ap (λ (l : List ℕ). set l (at-loop .loop .i) (at-start .args .b)) (at-loop .loop .inv .2) ∙ fill-more (at-loop .loop .i) (at-start .args .b) (at-start .args .dst .now) (omega arith))
 
 same-length : tie.Need-same-length Inv-loop μ-loop
 same-length c = c .before .loop .inv .1
 
 returns : tie.Need-returns Inv-loop μ-loop
-returns c = filled (c .before .before .args .dst .now) (c .before .loop .dst) (c .before .loop .i) (c .before .before .args .b) (c .before .loop .inv .2) (omega arith)
+returns c =
+    let at-loop = c .before in
+    let at-start = at-loop .before in
+    filled (at-start .args .dst .now) (at-loop .loop .dst) (at-loop .loop .i) (at-start .args .b) (at-loop .loop .inv .2) (omega arith)
 
 pub fill-spec : {M : Type 1} → statement M
 fill-spec = tie.close (tie.spec Inv-loop μ-loop loop-holds slice-write-dst add-i loop-less loop-again same-length returns)

@@ -31,7 +31,10 @@ loop-less : tie.Need-loop-less Inv-loop μ-loop
 loop-less c = simp length-set (omega arith)
 
 loop-again : tie.Need-loop-again Inv-loop μ-loop
-loop-again c = (simp length-set (omega arith), simp length-set (c .before .before .loop .inv .1), ap (λ (l : List ℕ). set l (c .before .before .loop .i) (c .entry-byte .result)) (c .before .before .loop .inv .2) ∙ ap (set (upTo (entryByte (c .before .before .before .before .args .b)) (c .before .before .loop .i) ++ drop (c .before .before .loop .i) (c .before .before .before .before .args .list .now)) (c .before .before .loop .i)) (c .entry-byte .ensures) ∙ upTo-more (entryByte (c .before .before .before .before .args .b)) (c .before .before .loop .i) (c .before .before .before .before .args .list .now) (omega arith))
+loop-again c =
+    let at-loop = c .before .before in
+    let at-start = at-loop .before .before in
+    (simp length-set (omega arith), simp length-set (at-loop .loop .inv .1), ap (λ (l : List ℕ). set l (at-loop .loop .i) (c .entry-byte .result)) (at-loop .loop .inv .2) ∙ ap (set (upTo (entryByte (at-start .args .b)) (at-loop .loop .i) ++ drop (at-loop .loop .i) (at-start .args .list .now)) (at-loop .loop .i)) (c .entry-byte .ensures) ∙ upTo-more (entryByte (at-start .args .b)) (at-loop .loop .i) (at-start .args .list .now) (omega arith))
 
 same-length : tie.Need-same-length Inv-loop μ-loop
 same-length c = c .before .loop .inv .1

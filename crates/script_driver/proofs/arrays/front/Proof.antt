@@ -14,7 +14,9 @@ returns : tie.Need-returns
 returns c = simp (lt-leb _ _ (let w = c .before .widen16 .ensures .0 in let h : c .before .before .args .len < c .before .before .args .n = omega arith in h))
 
 returns-2 : tie.Need-returns-2
-returns-2 c = c .before .widen16 .ensures .0 ∙ simp (le-leb _ _ (let w = c .before .widen16 .ensures .0 in let h : c .before .before .args .n ≤ c .before .before .args .len = omega arith in h))
+returns-2 c =
+    let at-start = c .before .before in
+    c .before .widen16 .ensures .0 ∙ simp (le-leb _ _ (let w = c .before .widen16 .ensures .0 in let h : at-start .args .n ≤ at-start .args .len = omega arith in h))
 
 pub front-spec : {M : Type 1} → statement M
 front-spec = tie.close (tie.spec widen16-requires returns returns-2)

@@ -10,12 +10,15 @@ front-requires : tie.Need-front-requires
 front-requires c κs = search needs
 
 slice-aggregate-result : tie.Need-slice-aggregate-result
-slice-aggregate-result c = front-size (c .before .before .before .args .n) (c .before .front .result) (c .before .before .before .args .src .now) (c .before .front .ensures)
+slice-aggregate-result c =
+    let at-start = c .before .before .before in
+    front-size (at-start .args .n) (c .before .front .result) (at-start .args .src .now) (c .before .front .ensures)
 
 returns : tie.Need-returns
 returns c =
+    let at-start = c .before .before .before in
     record {
-      holds = short-take (c .before .before .before .args .n) (c .before .front .result) (c .before .before .before .args .src .now) (c .before .front .ensures);
+      holds = short-take (at-start .args .n) (c .before .front .result) (at-start .args .src .now) (c .before .front .ensures);
       block = refl;
       offset = omega arith;
     }

@@ -37,11 +37,16 @@ loop-less c = omega arith
 
 loop-again : tie.Need-loop-again Inv-loop μ-loop
 loop-again c =
-    let u = c .before .before .before .before .before .before .before .before .before .args .unit in
-    let l = c .before .before .before .before .before .before .loop in
-    let p = c .before .before .put-entry in
-    let e = c .before .before .before .before .entry in
-    let h : l .k < length (listed (u .occupied)) = omega (arith, c .before .before .before .before .before .before .before .count .ensures) in (
+    let at-put-entry = c .before .before in
+    let at-entry = at-put-entry .before .before in
+    let at-loop = at-entry .before .before in
+    let at-count = at-loop .before in
+    let at-start = at-count .before .before in
+    let u = at-start .args .unit in
+    let l = at-loop .loop in
+    let p = at-put-entry .put-entry in
+    let e = at-entry .entry in
+    let h : l .k < length (listed (u .occupied)) = omega (arith, at-count .count .ensures) in (
       omega arith,
       p .kept .0 ∙ l .inv .1,
       ap (putEntries u (drop (l .k + 1) (listed (u .occupied))) (l .k + 1)) (p .ensures ∙ ap (λ (x : Entry). putEntry (l .k) x (l .list)) (e .ensures))

@@ -37,10 +37,14 @@ same-length : tie.Need-same-length
 same-length c = search needs
 
 returns : tie.Need-returns
-returns c = entry-put (c .before .before .before .args .list .now) (c .before .before .before .args .k) (c .before .before .before .args .e) (c .flag .result) (c .before .if1 .taken) (c .flag .ensures)
+returns c =
+    let at-start = c .before .before .before in
+    entry-put (at-start .args .list .now) (at-start .args .k) (at-start .args .e) (c .flag .result) (c .before .if1 .taken) (c .flag .ensures)
 
 returns-2 : tie.Need-returns-2
-returns-2 c = entry-out (c .before .before .args .list .now) (c .before .before .args .k) (c .before .before .args .e) (c .if1 .left)
+returns-2 c =
+    let at-start = c .before .before in
+    entry-out (at-start .args .list .now) (at-start .args .k) (at-start .args .e) (c .if1 .left)
 
 pub put-entry-spec : {M : Type 1} → statement M
 put-entry-spec =

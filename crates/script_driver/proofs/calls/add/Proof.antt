@@ -21,28 +21,52 @@ front-requires-4 : tie.Need-front-requires-4
 front-requires-4 c κs = search needs
 
 slice-relend-prefix-add : tie.Need-slice-relend-prefix-add
-slice-relend-prefix-add c = front-le (c .before .before .before .before .before .before .before .before .before .before .before .before .args .run .lent .setup) (c .before .before .before .front .result) (c .before .before .before .before .before .before .before .before .before .before .before .before .args .setup .now) (c .before .before .before .front .ensures)
+slice-relend-prefix-add c =
+    let at-front = c .before .before .before in
+    let at-start = at-front .before .before .before .before .before .before .before .before .before in
+    front-le (at-start .args .run .lent .setup) (at-front .front .result) (at-start .args .setup .now) (at-front .front .ensures)
 
 slice-aggregate-add : tie.Need-slice-aggregate-add
-slice-aggregate-add c = front-size (c .before .before .before .before .before .before .before .before .before .before .before .before .before .args .run .lent .setup) (c .before .before .before .before .front .result) (c .before .before .before .before .before .before .before .before .before .before .before .before .before .args .setup .now) (c .before .before .before .before .front .ensures)
+slice-aggregate-add c =
+    let at-front = c .before .before .before .before in
+    let at-start = at-front .before .before .before .before .before .before .before .before .before in
+    front-size (at-start .args .run .lent .setup) (at-front .front .result) (at-start .args .setup .now) (at-front .front .ensures)
 
 slice-relend-prefix-add-2 : tie.Need-slice-relend-prefix-add-2
-slice-relend-prefix-add-2 c = front-le (c .before .before .before .before .before .before .before .before .before .before .before .before .before .args .run .lent .inputs) (c .before .before .before .front2 .result) (c .before .before .before .before .before .before .before .before .before .before .before .before .before .args .inputs .now) (c .before .before .before .front2 .ensures)
+slice-relend-prefix-add-2 c =
+    let at-front2 = c .before .before .before in
+    let at-start = at-front2 .before .before .before .before .before .before .before .before .before .before in
+    front-le (at-start .args .run .lent .inputs) (at-front2 .front2 .result) (at-start .args .inputs .now) (at-front2 .front2 .ensures)
 
 slice-aggregate-add-2 : tie.Need-slice-aggregate-add-2
-slice-aggregate-add-2 c = front-size (c .before .before .before .before .before .before .before .before .before .before .before .before .before .before .args .run .lent .inputs) (c .before .before .before .before .front2 .result) (c .before .before .before .before .before .before .before .before .before .before .before .before .before .before .args .inputs .now) (c .before .before .before .before .front2 .ensures)
+slice-aggregate-add-2 c =
+    let at-front2 = c .before .before .before .before in
+    let at-start = at-front2 .before .before .before .before .before .before .before .before .before .before in
+    front-size (at-start .args .run .lent .inputs) (at-front2 .front2 .result) (at-start .args .inputs .now) (at-front2 .front2 .ensures)
 
 slice-relend-prefix-add-3 : tie.Need-slice-relend-prefix-add-3
-slice-relend-prefix-add-3 c = front-le (c .before .before .before .before .before .before .before .before .before .before .before .before .before .before .args .run .lent .outputs) (c .before .before .before .front3 .result) (c .before .before .before .before .before .before .before .before .before .before .before .before .before .before .args .outputs .now) (c .before .before .before .front3 .ensures)
+slice-relend-prefix-add-3 c =
+    let at-front3 = c .before .before .before in
+    let at-start = at-front3 .before .before .before .before .before .before .before .before .before .before .before in
+    front-le (at-start .args .run .lent .outputs) (at-front3 .front3 .result) (at-start .args .outputs .now) (at-front3 .front3 .ensures)
 
 slice-aggregate-add-3 : tie.Need-slice-aggregate-add-3
-slice-aggregate-add-3 c = front-size (c .before .before .before .before .before .before .before .before .before .before .before .before .before .before .before .args .run .lent .outputs) (c .before .before .before .before .front3 .result) (c .before .before .before .before .before .before .before .before .before .before .before .before .before .before .before .args .outputs .now) (c .before .before .before .before .front3 .ensures)
+slice-aggregate-add-3 c =
+    let at-front3 = c .before .before .before .before in
+    let at-start = at-front3 .before .before .before .before .before .before .before .before .before .before .before in
+    front-size (at-start .args .run .lent .outputs) (at-front3 .front3 .result) (at-start .args .outputs .now) (at-front3 .front3 .ensures)
 
 slice-relend-prefix-add-4 : tie.Need-slice-relend-prefix-add-4
-slice-relend-prefix-add-4 c = front-le (c .before .before .before .before .before .before .before .before .before .before .before .before .before .before .before .args .run .lent .diags) (c .before .before .before .front4 .result) (c .before .before .before .before .before .before .before .before .before .before .before .before .before .before .before .args .diags .now) (c .before .before .before .front4 .ensures)
+slice-relend-prefix-add-4 c =
+    let at-front4 = c .before .before .before in
+    let at-start = at-front4 .before .before .before .before .before .before .before .before .before .before .before .before in
+    front-le (at-start .args .run .lent .diags) (at-front4 .front4 .result) (at-start .args .diags .now) (at-front4 .front4 .ensures)
 
 slice-aggregate-add-4 : tie.Need-slice-aggregate-add-4
-slice-aggregate-add-4 c = front-size (c .before .before .before .before .before .before .before .before .before .before .before .before .before .before .before .before .args .run .lent .diags) (c .before .before .before .before .front4 .result) (c .before .before .before .before .before .before .before .before .before .before .before .before .before .before .before .before .args .diags .now) (c .before .before .before .before .front4 .ensures)
+slice-aggregate-add-4 c =
+    let at-front4 = c .before .before .before .before in
+    let at-start = at-front4 .before .before .before .before .before .before .before .before .before .before .before .before in
+    front-size (at-start .args .run .lent .diags) (at-front4 .front4 .result) (at-start .args .diags .now) (at-front4 .front4 .ensures)
 
 add-requires : tie.Need-add-requires
 add-requires c κs = search needs
@@ -61,12 +85,18 @@ same-length-4 c = search needs
 
 returns : tie.Need-returns
 returns c =
-    let a = c .before .before .before .before .before .before .before .before .before .before .before .before .before .before .before .before .before .before .before .before .before .before .before .before .before .args in
-    let t = c .before .before .before .before .before .before .before .before .add in
-    let s = c .before .before .before .before .before .before .before .before .before .before .before .before .before .before .before .before .front in
-    let i = c .before .before .before .before .before .before .before .before .before .before .before .before .before .before .before .front2 in
-    let q = c .before .before .before .before .before .before .before .before .before .before .before .before .before .before .front3 in
-    let d = c .before .before .before .before .before .before .before .before .before .before .before .before .before .front4 in
+    let at-add = c .before .before .before .before .before .before .before .before in
+    let at-front4 = at-add .before .before .before .before .before in
+    let at-front3 = at-front4 .before in
+    let at-front2 = at-front3 .before in
+    let at-front = at-front2 .before in
+    let at-start = at-front .before .before .before .before .before .before .before .before .before in
+    let a = at-start .args in
+    let t = at-add .add in
+    let s = at-front .front in
+    let i = at-front2 .front2 in
+    let q = at-front3 .front3 in
+    let d = at-front4 .front4 in
     let ns = a .run .lent .setup in
     let ni = a .run .lent .inputs in
     let nq = a .run .lent .outputs in

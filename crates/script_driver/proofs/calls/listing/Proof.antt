@@ -26,9 +26,13 @@ same-length c = search needs
 
 returns-2 : tie.Need-returns-2
 returns-2 c =
-    let n = c .before .before .before .before .before .before .before .before .args .run .lent .list in
-    let p = c .before .before .put-entries in
-    let enough : leb slots n ≡ true = le-leb slots n (omega (arith, c .before .before .before .before .before .widen16 .ensures .0, c .before .before .before .before .if1 .left)) in
+    let at-put-entries = c .before .before in
+    let at-if1 = at-put-entries .before .before in
+    let at-place = at-if1 .before in
+    let at-start = at-place .before .before .before in
+    let n = at-start .args .run .lent .list in
+    let p = at-put-entries .put-entries in
+    let enough : leb slots n ≡ true = le-leb slots n (omega (arith, at-place .widen16 .ensures .0, at-if1 .if1 .left)) in
     record { answer = rw enough (rw (p .ensures .len) refl); bytes = rw enough (p .ensures .bytes) }
 
 pub listing-spec : {M : Type 1} → statement M

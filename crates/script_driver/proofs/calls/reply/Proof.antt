@@ -14,16 +14,26 @@ front-requires-2 : tie.Need-front-requires-2
 front-requires-2 c κs = search needs
 
 slice-relend-prefix-receive-reply : tie.Need-slice-relend-prefix-receive-reply
-slice-relend-prefix-receive-reply c = front-le (c .before .before .before .before .before .before .before .args .run .lent .inputs) (c .before .front .result) (c .before .before .before .before .before .before .before .args .inputs .now) (c .before .front .ensures)
+slice-relend-prefix-receive-reply c =
+    let at-start = c .before .before .before .before .before .before .before in
+    front-le (at-start .args .run .lent .inputs) (c .before .front .result) (at-start .args .inputs .now) (c .before .front .ensures)
 
 slice-aggregate-receive-reply : tie.Need-slice-aggregate-receive-reply
-slice-aggregate-receive-reply c = front-size (c .before .before .before .before .before .before .before .before .args .run .lent .inputs) (c .before .before .front .result) (c .before .before .before .before .before .before .before .before .args .inputs .now) (c .before .before .front .ensures)
+slice-aggregate-receive-reply c =
+    let at-front = c .before .before in
+    let at-start = at-front .before .before .before .before .before .before in
+    front-size (at-start .args .run .lent .inputs) (at-front .front .result) (at-start .args .inputs .now) (at-front .front .ensures)
 
 slice-relend-prefix-receive-reply-2 : tie.Need-slice-relend-prefix-receive-reply-2
-slice-relend-prefix-receive-reply-2 c = front-le (c .before .before .before .before .before .before .before .before .args .run .lent .diags) (c .before .front2 .result) (c .before .before .before .before .before .before .before .before .args .diags .now) (c .before .front2 .ensures)
+slice-relend-prefix-receive-reply-2 c =
+    let at-start = c .before .before .before .before .before .before .before .before in
+    front-le (at-start .args .run .lent .diags) (c .before .front2 .result) (at-start .args .diags .now) (c .before .front2 .ensures)
 
 slice-aggregate-receive-reply-2 : tie.Need-slice-aggregate-receive-reply-2
-slice-aggregate-receive-reply-2 c = front-size (c .before .before .before .before .before .before .before .before .before .args .run .lent .diags) (c .before .before .front2 .result) (c .before .before .before .before .before .before .before .before .before .args .diags .now) (c .before .before .front2 .ensures)
+slice-aggregate-receive-reply-2 c =
+    let at-front2 = c .before .before in
+    let at-start = at-front2 .before .before .before .before .before .before .before in
+    front-size (at-start .args .run .lent .diags) (at-front2 .front2 .result) (at-start .args .diags .now) (at-front2 .front2 .ensures)
 
 receive-reply-requires : tie.Need-receive-reply-requires
 receive-reply-requires c κs = search needs
@@ -36,10 +46,14 @@ same-length-2 c = search needs
 
 returns : tie.Need-returns
 returns c =
-    let a = c .before .before .before .before .before .before .before .before .before .before .before .before .before .before .args in
-    let i = c .before .before .before .before .before .before .before .before .front in
-    let d = c .before .before .before .before .before .before .before .front2 in
-    let t = c .before .before .before .before .receive-reply in
+    let at-receive-reply = c .before .before .before .before in
+    let at-front2 = at-receive-reply .before .before .before in
+    let at-front = at-front2 .before in
+    let at-start = at-front .before .before .before .before .before .before in
+    let a = at-start .args in
+    let i = at-front .front in
+    let d = at-front2 .front2 in
+    let t = at-receive-reply .receive-reply in
     let ni = a .run .lent .inputs in
     let nd = a .run .lent .diags in
     let li = t .last .1 .1 .1 .1 .0 in

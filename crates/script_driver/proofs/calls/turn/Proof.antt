@@ -17,10 +17,16 @@ lent-requires-2 : tie.Need-lent-requires-2
 lent-requires-2 c κs = search needs
 
 slice-relend-prefix-transmit-telegram : tie.Need-slice-relend-prefix-transmit-telegram
-slice-relend-prefix-transmit-telegram c = front-le (c .before .before .before .before .before .before .before .before .args .run .lent .payload) (c .before .before .front .result) (c .before .before .before .before .before .before .before .before .args .payload .now) (c .before .before .front .ensures)
+slice-relend-prefix-transmit-telegram c =
+    let at-front = c .before .before in
+    let at-start = at-front .before .before .before .before .before .before in
+    front-le (at-start .args .run .lent .payload) (at-front .front .result) (at-start .args .payload .now) (at-front .front .ensures)
 
 slice-aggregate-transmit-telegram : tie.Need-slice-aggregate-transmit-telegram
-slice-aggregate-transmit-telegram c = front-size (c .before .before .before .before .before .before .before .before .before .args .run .lent .payload) (c .before .before .before .front .result) (c .before .before .before .before .before .before .before .before .before .args .payload .now) (c .before .before .before .front .ensures)
+slice-aggregate-transmit-telegram c =
+    let at-front = c .before .before .before in
+    let at-start = at-front .before .before .before .before .before .before in
+    front-size (at-start .args .run .lent .payload) (at-front .front .result) (at-start .args .payload .now) (at-front .front .ensures)
 
 transmit-telegram-requires : tie.Need-transmit-telegram-requires
 transmit-telegram-requires c κs = search needs
@@ -30,15 +36,20 @@ same-length c = search needs
 
 returns : tie.Need-returns
 returns c =
-    let a = c .before .before .before .before .before .before .before .before .before .before .before .before .args in
-    let k = c .before .before .before .before .before .before .front in
-    let t = c .before .before .transmit-telegram in
+    let at-transmit-telegram = c .before .before in
+    let at-lent2 = at-transmit-telegram .before .before in
+    let at-lent = at-lent2 .before in
+    let at-front = at-lent .before in
+    let at-start = at-front .before .before .before .before .before .before in
+    let a = at-start .args in
+    let k = at-front .front in
+    let t = at-transmit-telegram .transmit-telegram in
     let n = a .run .lent .payload in
     let left = t .last .1 .1 .1 .1 .1 .0 in
     let size : length left ≡ length (take (k .result) (a .payload .now)) = t .kept .1 .1 .1 .1 .1 .0 in
     record {
       call =
-          moved4 (λ s o b l. Turned (a .run .unit) (a .time) (a .high-prio-only) s o b l (t .result)) (c .before .before .before .before .before .lent .ensures .holds) (c .before .before .before .before .lent2 .ensures .holds)
+          moved4 (λ s o b l. Turned (a .run .unit) (a .time) (a .high-prio-only) s o b l (t .result)) (at-lent .lent .ensures .holds) (at-lent2 .lent2 .ensures .holds)
           (short-take n (k .result) (a .payload .now) (k .ensures)) (sym (lent-front n (k .result) (a .payload .now) left (k .ensures) size)) (t .ensures);
       payloadArray = lent-behind n (k .result) (a .payload .now) left (k .ensures) size;
     }

@@ -11,10 +11,14 @@ front-requires : tie.Need-front-requires
 front-requires c κs = search needs
 
 slice-relend-prefix-write-outputs : tie.Need-slice-relend-prefix-write-outputs
-slice-relend-prefix-write-outputs c = front-le (c .before .before .before .before .before .args .run .lent .outputs) (c .front .result) (c .before .before .before .before .before .args .outputs .now) (c .front .ensures)
+slice-relend-prefix-write-outputs c =
+    let at-start = c .before .before .before .before .before in
+    front-le (at-start .args .run .lent .outputs) (c .front .result) (at-start .args .outputs .now) (c .front .ensures)
 
 slice-aggregate-write-outputs : tie.Need-slice-aggregate-write-outputs
-slice-aggregate-write-outputs c = front-size (c .before .before .before .before .before .before .args .run .lent .outputs) (c .before .front .result) (c .before .before .before .before .before .before .args .outputs .now) (c .before .front .ensures)
+slice-aggregate-write-outputs c =
+    let at-start = c .before .before .before .before .before .before in
+    front-size (at-start .args .run .lent .outputs) (c .before .front .result) (at-start .args .outputs .now) (c .before .front .ensures)
 
 write-outputs-requires : tie.Need-write-outputs-requires
 write-outputs-requires c κs = search needs
@@ -24,9 +28,12 @@ same-length c = search needs
 
 returns : tie.Need-returns
 returns c =
-    let a = c .before .before .before .before .before .before .before .before .before .args in
-    let k = c .before .before .before .before .front in
-    let t = c .before .before .write-outputs in
+    let at-write-outputs = c .before .before in
+    let at-front = at-write-outputs .before .before in
+    let at-start = at-front .before .before .before .before .before in
+    let a = at-start .args in
+    let k = at-front .front in
+    let t = at-write-outputs .write-outputs in
     let n = a .run .lent .outputs in
     let left = t .last .1 .1 .1 .0 in
     let size : length left ≡ length (take (k .result) (a .outputs .now)) = t .kept .1 .1 .1 .0 in

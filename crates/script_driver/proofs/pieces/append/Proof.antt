@@ -11,7 +11,10 @@ copy-at-requires : tie.Need-copy-at-requires
 copy-at-requires c κs = search needs
 
 add-t9 : tie.Need-add-t9
-add-t9 c = omega (arith, room-old (c .before .before .before .before .before .before .before .args .p .filled) (length (c .before .before .before .before .before .before .before .args .piece .now)) (c .before .before .before .before .before .before .before .args .piece .now) (c .before .before .before .before .before .before .before .args .line .now) (sym (c .before .before .before .copy-at .ensures .answer) ∙ c .if1 .taken))
+add-t9 c =
+    let at-copy-at = c .before .before .before in
+    let at-start = at-copy-at .before .before .before .before in
+    omega (arith, room-old (at-start .args .p .filled) (length (at-start .args .piece .now)) (at-start .args .piece .now) (at-start .args .line .now) (sym (at-copy-at .copy-at .ensures .answer) ∙ c .if1 .taken))
 
 same-length : tie.Need-same-length
 same-length c = search needs

@@ -21,7 +21,10 @@ shared-slice-read-if1 : tie.Need-shared-slice-read-if1 Inv-loop μ-loop
 shared-slice-read-if1 c = omega arith
 
 returns : tie.Need-returns Inv-loop μ-loop
-returns c = sym (newline-here (c .before .before .before .before .args .s .now) (c .before .before .before .loop .i) (omega arith) (c .if1 .taken)) ∙ c .before .before .before .loop .inv
+returns c =
+    let at-loop = c .before .before .before in
+    let at-start = at-loop .before in
+    sym (newline-here (at-start .args .s .now) (at-loop .loop .i) (omega arith) (c .if1 .taken)) ∙ at-loop .loop .inv
 
 add-i : tie.Need-add-i Inv-loop μ-loop
 add-i c = omega arith
@@ -30,7 +33,10 @@ loop-less : tie.Need-loop-less Inv-loop μ-loop
 loop-less c = omega arith
 
 loop-again : tie.Need-loop-again Inv-loop μ-loop
-loop-again c = sym (newline-on (c .before .before .before .before .args .s .now) (c .before .before .before .loop .i) (omega arith) (c .if1 .left)) ∙ c .before .before .before .loop .inv
+loop-again c =
+    let at-loop = c .before .before .before in
+    let at-start = at-loop .before in
+    sym (newline-on (at-start .args .s .now) (at-loop .loop .i) (omega arith) (c .if1 .left)) ∙ at-loop .loop .inv
 
 returns-2 : tie.Need-returns-2 Inv-loop μ-loop
 returns-2 c = sym (newline-none (c .before .before .args .s .now) (c .before .loop .i) (omega arith)) ∙ c .before .loop .inv

@@ -17,47 +17,74 @@ no-bytes-requires c κs = search needs
 
 returns : tie.Need-returns
 returns c =
-    rw (c .no-bytes .ensures) (bytes-there (c .before .before .before .before .before .args .s .now) (c .before .before .before .before .before .args .c) (c .before .before .before .space .result) (c .before .before .before .before .before .args .out .now) _ _ (c .before .before .before .space .ensures)
-    (bytes-bad (c .before .before .before .before .before .args .s .now) _ (c .before .before .before .space .result .at) (c .before .before .before .before .before .args .out .now) (not-true _ (c .before .if1 .taken))))
+    let at-space = c .before .before .before in
+    let at-start = at-space .before .before in
+    rw (c .no-bytes .ensures) (bytes-there (at-start .args .s .now) (at-start .args .c) (at-space .space .result) (at-start .args .out .now) _ _ (at-space .space .ensures)
+    (bytes-bad (at-start .args .s .now) _ (at-space .space .result .at) (at-start .args .out .now) (not-true _ (c .before .if1 .taken))))
 
 has-requires : tie.Need-has-requires
 has-requires c κs = search needs
 
 add-some-bytes : tie.Need-add-some-bytes
-add-some-bytes c = omega (arith, has-lt (c .before .before .before .before .before .before .args .s .now) (c .before .before .before .before .space .result .at) 45 (sym (c .before .has .ensures) ∙ c .if2 .taken))
+add-some-bytes c =
+    let at-space = c .before .before .before .before in
+    let at-start = at-space .before .before in
+    omega (arith, has-lt (at-start .args .s .now) (at-space .space .result .at) 45 (sym (c .before .has .ensures) ∙ c .if2 .taken))
 
 some-bytes-requires : tie.Need-some-bytes-requires
 some-bytes-requires c κs = search needs
 
 returns-2 : tie.Need-returns-2
 returns-2 c =
-    rw (c .some-bytes .ensures) (bytes-there (c .before .before .before .before .before .before .before .args .s .now) (c .before .before .before .before .before .before .before .args .c) (c .before .before .before .before .before .space .result) (c .before .before .before .before .before .before .before .args .out .now) _ _ (c .before .before .before .before .before .space .ensures)
-    (bytes-dash (c .before .before .before .before .before .before .before .args .s .now) _ (c .before .before .before .before .before .space .result .at) (c .before .before .before .before .before .before .before .args .out .now) (not-false _ (c .before .before .before .if1 .left)) (sym (c .before .before .has .ensures) ∙ c .before .if2 .taken)))
+    let at-has = c .before .before in
+    let at-if1 = at-has .before in
+    let at-space = at-if1 .before .before in
+    let at-start = at-space .before .before in
+    rw (c .some-bytes .ensures) (bytes-there (at-start .args .s .now) (at-start .args .c) (at-space .space .result) (at-start .args .out .now) _ _ (at-space .space .ensures)
+    (bytes-dash (at-start .args .s .now) _ (at-space .space .result .at) (at-start .args .out .now) (not-false _ (at-if1 .if1 .left)) (sym (at-has .has .ensures) ∙ c .before .if2 .taken)))
 
 pairs-requires : tie.Need-pairs-requires
 pairs-requires c κs = search needs
 
 mul-some-bytes : tie.Need-mul-some-bytes
-mul-some-bytes c = omega (arith, c .before .pairs .ensures .0, pairs-few most (drop (c .before .before .before .before .before .before .before .space .result .at) (c .before .before .before .before .before .before .before .before .before .args .s .now)))
+mul-some-bytes c =
+    let at-space = c .before .before .before .before .before .before .before in
+    let at-start = at-space .before .before in
+    omega (arith, c .before .pairs .ensures .0, pairs-few most (drop (at-space .space .result .at) (at-start .args .s .now)))
 
 add-some-bytes-2 : tie.Need-add-some-bytes-2
-add-some-bytes-2 c = omega (arith, c .before .pairs .ensures .0, pairs-within most (drop (c .before .before .before .before .before .before .before .space .result .at) (c .before .before .before .before .before .before .before .before .before .args .s .now)), length-drop (c .before .before .before .before .before .before .before .space .result .at) (c .before .before .before .before .before .before .before .before .before .args .s .now))
+add-some-bytes-2 c =
+    let at-space = c .before .before .before .before .before .before .before in
+    let at-start = at-space .before .before in
+    omega (arith, c .before .pairs .ensures .0, pairs-within most (drop (at-space .space .result .at) (at-start .args .s .now)), length-drop (at-space .space .result .at) (at-start .args .s .now))
 
 some-bytes-requires-2 : tie.Need-some-bytes-requires-2
 some-bytes-requires-2 c κs = search needs
 
 returns-3 : tie.Need-returns-3
 returns-3 c =
-    rw (c .some-bytes2 .ensures) (bytes-there (c .before .before .before .before .before .before .before .before .before .before .args .s .now) (c .before .before .before .before .before .before .before .before .before .before .args .c) (c .before .before .before .before .before .before .before .before .space .result) (c .before .before .before .before .before .before .before .before .before .before .args .out .now) _ _ (c .before .before .before .before .before .before .before .before .space .ensures)
-    (bytes-some (c .before .before .before .before .before .before .before .before .before .before .args .s .now) _ (c .before .before .before .before .before .before .before .before .space .result .at) (c .before .before .before .before .before .before .before .before .before .before .args .out .now) (c .before .before .pairs .result) _ (not-false _ (c .before .before .before .before .before .before .if1 .left)) (sym (c .before .before .before .before .before .has .ensures) ∙ c .before .before .before .before .if2 .left) (c .before .before .pairs .ensures) (c .before .if3 .taken)))
+    let at-pairs = c .before .before in
+    let at-if2 = at-pairs .before .before in
+    let at-has = at-if2 .before in
+    let at-if1 = at-has .before in
+    let at-space = at-if1 .before .before in
+    let at-start = at-space .before .before in
+    rw (c .some-bytes2 .ensures) (bytes-there (at-start .args .s .now) (at-start .args .c) (at-space .space .result) (at-start .args .out .now) _ _ (at-space .space .ensures)
+    (bytes-some (at-start .args .s .now) _ (at-space .space .result .at) (at-start .args .out .now) (at-pairs .pairs .result) _ (not-false _ (at-if1 .if1 .left)) (sym (at-has .has .ensures) ∙ at-if2 .if2 .left) (at-pairs .pairs .ensures) (c .before .if3 .taken)))
 
 no-bytes-requires-2 : tie.Need-no-bytes-requires-2
 no-bytes-requires-2 c κs = search needs
 
 returns-4 : tie.Need-returns-4
 returns-4 c =
-    rw (c .no-bytes2 .ensures) (bytes-there (c .before .before .before .before .before .before .before .before .before .before .args .s .now) (c .before .before .before .before .before .before .before .before .before .before .args .c) (c .before .before .before .before .before .before .before .before .space .result) (c .before .before .before .before .before .before .before .before .before .before .args .out .now) _ _ (c .before .before .before .before .before .before .before .before .space .ensures)
-    (bytes-none (c .before .before .before .before .before .before .before .before .before .before .args .s .now) _ (c .before .before .before .before .before .before .before .before .space .result .at) (c .before .before .before .before .before .before .before .before .before .before .args .out .now) (c .before .before .pairs .result) _ (not-false _ (c .before .before .before .before .before .before .if1 .left)) (sym (c .before .before .before .before .before .has .ensures) ∙ c .before .before .before .before .if2 .left) (c .before .before .pairs .ensures) (c .before .if3 .left)))
+    let at-pairs = c .before .before in
+    let at-if2 = at-pairs .before .before in
+    let at-has = at-if2 .before in
+    let at-if1 = at-has .before in
+    let at-space = at-if1 .before .before in
+    let at-start = at-space .before .before in
+    rw (c .no-bytes2 .ensures) (bytes-there (at-start .args .s .now) (at-start .args .c) (at-space .space .result) (at-start .args .out .now) _ _ (at-space .space .ensures)
+    (bytes-none (at-start .args .s .now) _ (at-space .space .result .at) (at-start .args .out .now) (at-pairs .pairs .result) _ (not-false _ (at-if1 .if1 .left)) (sym (at-has .has .ensures) ∙ at-if2 .if2 .left) (at-pairs .pairs .ensures) (c .before .if3 .left)))
 
 pub bytes-spec : {M : Type 1} → statement M
 bytes-spec = tie.close (tie.spec space-requires no-bytes-requires returns has-requires add-some-bytes some-bytes-requires returns-2 pairs-requires mul-some-bytes add-some-bytes-2 some-bytes-requires-2 returns-3 no-bytes-requires-2 returns-4)

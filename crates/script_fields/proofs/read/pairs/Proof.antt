@@ -18,13 +18,19 @@ loop-holds : tie.Need-loop-holds Inv-loop μ-loop
 loop-holds c = record { few = omega arith; size = omega arith; array = refl }
 
 returns : tie.Need-returns Inv-loop μ-loop
-returns c = pairing-stops (c .before .before .before .before .args .s .now) _ _ (c .before .before .loop .out) (c .before .before .loop .n) (c .before .before .loop .i) (c .before .before .loop .inv) (pair-short (c .before .before .before .before .args .s .now) (c .before .before .loop .i) (omega arith))
+returns c =
+    let at-loop = c .before .before in
+    let at-start = at-loop .before .before in
+    pairing-stops (at-start .args .s .now) _ _ (at-loop .loop .out) (at-loop .loop .n) (at-loop .loop .i) (at-loop .loop .inv) (pair-short (at-start .args .s .now) (at-loop .loop .i) (omega arith))
 
 sub-if2 : tie.Need-sub-if2 Inv-loop μ-loop
 sub-if2 c = omega arith
 
 returns-2 : tie.Need-returns-2 Inv-loop μ-loop
-returns-2 c = pairing-stops (c .before .before .before .before .before .args .s .now) _ _ (c .before .before .before .loop .out) (c .before .before .before .loop .n) (c .before .before .before .loop .i) (c .before .before .before .loop .inv) (pair-short (c .before .before .before .before .before .args .s .now) (c .before .before .before .loop .i) (c .if2 .taken))
+returns-2 c =
+    let at-loop = c .before .before .before in
+    let at-start = at-loop .before .before in
+    pairing-stops (at-start .args .s .now) _ _ (at-loop .loop .out) (at-loop .loop .n) (at-loop .loop .i) (at-loop .loop .inv) (pair-short (at-start .args .s .now) (at-loop .loop .i) (c .if2 .taken))
 
 shared-slice-read-hex : tie.Need-shared-slice-read-hex Inv-loop μ-loop
 shared-slice-read-hex c = omega arith
@@ -42,10 +48,18 @@ hex-requires-2 : tie.Need-hex-requires-2 Inv-loop μ-loop
 hex-requires-2 c κs = tt
 
 returns-3 : tie.Need-returns-3 Inv-loop μ-loop
-returns-3 c = pairing-stops (c .before .before .before .before .before .before .before .before .before .before .args .s .now) _ _ (c .before .before .before .before .before .before .before .before .loop .out) (c .before .before .before .before .before .before .before .before .loop .n) (c .before .before .before .before .before .before .before .before .loop .i) (c .before .before .before .before .before .before .before .before .loop .inv) (pair-high (c .before .before .before .before .before .before .before .before .before .before .args .s .now) (c .before .before .before .before .before .before .before .before .loop .i) (omega (arith, c .before .before .before .hex .ensures .0)))
+returns-3 c =
+    let at-hex = c .before .before .before in
+    let at-loop = at-hex .before .before .before .before .before in
+    let at-start = at-loop .before .before in
+    pairing-stops (at-start .args .s .now) _ _ (at-loop .loop .out) (at-loop .loop .n) (at-loop .loop .i) (at-loop .loop .inv) (pair-high (at-start .args .s .now) (at-loop .loop .i) (omega (arith, at-hex .hex .ensures .0)))
 
 returns-4 : tie.Need-returns-4 Inv-loop μ-loop
-returns-4 c = pairing-stops (c .before .before .before .before .before .before .before .before .before .before .before .args .s .now) _ _ (c .before .before .before .before .before .before .before .before .before .loop .out) (c .before .before .before .before .before .before .before .before .before .loop .n) (c .before .before .before .before .before .before .before .before .before .loop .i) (c .before .before .before .before .before .before .before .before .before .loop .inv) (pair-low (c .before .before .before .before .before .before .before .before .before .before .before .args .s .now) (c .before .before .before .before .before .before .before .before .before .loop .i) (omega (arith, c .before .before .hex2 .ensures .0)))
+returns-4 c =
+    let at-hex2 = c .before .before in
+    let at-loop = at-hex2 .before .before .before .before .before .before .before in
+    let at-start = at-loop .before .before in
+    pairing-stops (at-start .args .s .now) _ _ (at-loop .loop .out) (at-loop .loop .n) (at-loop .loop .i) (at-loop .loop .inv) (pair-low (at-start .args .s .now) (at-loop .loop .i) (omega (arith, at-hex2 .hex2 .ensures .0)))
 
 mul-out : tie.Need-mul-out Inv-loop μ-loop
 mul-out c = omega arith
@@ -67,12 +81,20 @@ loop-less c = omega arith
 
 loop-again : tie.Need-loop-again Inv-loop μ-loop
 loop-again c =
-    pairing-goes-on (c .before .before .before .before .before .before .before .before .before .before .before .args .s .now) _ _ (c .before .before .before .before .before .before .before .before .before .loop .out) (c .before .before .before .before .before .before .before .before .before .loop .n) (c .before .before .before .before .before .before .before .before .before .loop .i) (c .before .before .before .before .before .before .before .before .before .loop .inv) (c .before .before .before .before .hex .result) (c .before .before .hex2 .result) (c .before .before .before .before .before .before .before .before .loop-test .taken)
-    (pair-there (c .before .before .before .before .before .before .before .before .before .before .before .args .s .now) (c .before .before .before .before .before .before .before .before .before .loop .i) (omega arith) (omega (arith, c .before .before .before .before .hex .ensures .0)) (omega (arith, c .before .before .hex2 .ensures .0)))
-    (c .before .before .before .before .hex .ensures .0) (c .before .before .hex2 .ensures .0)
+    let at-hex2 = c .before .before in
+    let at-hex = at-hex2 .before .before in
+    let at-loop-test = at-hex .before .before .before .before in
+    let at-loop = at-loop-test .before in
+    let at-start = at-loop .before .before in
+    pairing-goes-on (at-start .args .s .now) _ _ (at-loop .loop .out) (at-loop .loop .n) (at-loop .loop .i) (at-loop .loop .inv) (at-hex .hex .result) (at-hex2 .hex2 .result) (at-loop-test .loop-test .taken)
+    (pair-there (at-start .args .s .now) (at-loop .loop .i) (omega arith) (omega (arith, at-hex .hex .ensures .0)) (omega (arith, at-hex2 .hex2 .ensures .0)))
+    (at-hex .hex .ensures .0) (at-hex2 .hex2 .ensures .0)
 
 returns-5 : tie.Need-returns-5 Inv-loop μ-loop
-returns-5 c = pairing-full (c .before .before .before .args .s .now) _ _ (c .before .loop .out) (c .before .loop .n) (c .before .loop .i) (c .before .loop .inv) (c .loop-test .left)
+returns-5 c =
+    let at-loop = c .before in
+    let at-start = at-loop .before .before in
+    pairing-full (at-start .args .s .now) _ _ (at-loop .loop .out) (at-loop .loop .n) (at-loop .loop .i) (at-loop .loop .inv) (c .loop-test .left)
 
 pub pairs-spec : {M : Type 1} → statement M
 pairs-spec = tie.close (tie.spec Inv-loop μ-loop loop-holds returns sub-if2 returns-2 shared-slice-read-hex hex-requires add-hex shared-slice-read-hex-2 hex-requires-2 returns-3 returns-4 mul-out add-out element-write-out add-n add-i loop-less loop-again returns-5)

@@ -16,13 +16,21 @@ add-t8 : tie.Need-add-t8
 add-t8 c = omega (arith, absent-lt (c .before .before .before .before .args .s .now) _ (c .before .before .space .result .at) (sym (c .before .is-absent .ensures) ∙ c .if1 .taken))
 
 returns : tie.Need-returns
-returns c = setup-absent (c .before .before .before .before .args .s .now) (c .before .before .before .before .args .c) (c .before .before .space .result) (c .before .before .before .before .args .out .now) (c .before .before .space .ensures) (sym (c .before .is-absent .ensures) ∙ c .if1 .taken)
+returns c =
+    let at-space = c .before .before in
+    let at-start = at-space .before .before in
+    setup-absent (at-start .args .s .now) (at-start .args .c) (at-space .space .result) (at-start .args .out .now) (at-space .space .ensures) (sym (c .before .is-absent .ensures) ∙ c .if1 .taken)
 
 bytes-requires : tie.Need-bytes-requires
 bytes-requires c κs = search needs
 
 returns-2 : tie.Need-returns-2
-returns-2 c = setup-present (c .before .before .before .before .before .before .args .s .now) (c .before .before .before .before .before .before .args .c) (c .before .before .before .before .space .result) (c .before .before .before .before .before .before .args .out .now) _ _ (c .before .before .before .before .space .ensures) (sym (c .before .before .before .is-absent .ensures) ∙ c .before .before .if1 .left) (c .bytes .ensures)
+returns-2 c =
+    let at-if1 = c .before .before in
+    let at-is-absent = at-if1 .before in
+    let at-space = at-is-absent .before in
+    let at-start = at-space .before .before in
+    setup-present (at-start .args .s .now) (at-start .args .c) (at-space .space .result) (at-start .args .out .now) _ _ (at-space .space .ensures) (sym (at-is-absent .is-absent .ensures) ∙ at-if1 .if1 .left) (c .bytes .ensures)
 
 pub setup-spec : {M : Type 1} → statement M
 setup-spec = tie.close (tie.spec space-requires is-absent-requires add-t8 returns bytes-requires returns-2)

@@ -11,7 +11,10 @@ number-requires : tie.Need-number-requires
 number-requires c κs = search needs
 
 cast-t7 : tie.Need-cast-t7
-cast-t7 c = omega (arith, ap (λ (f : U64Field). f .value) (c .before .before .number .ensures), number-limit (c .before .before .before .before .args .limit) (c .before .before .before .before .args .s .now) (c .before .before .before .before .args .c))
+cast-t7 c =
+    let at-number = c .before .before in
+    let at-start = at-number .before .before in
+    omega (arith, ap (λ (f : U64Field). f .value) (at-number .number .ensures), number-limit (at-start .args .limit) (at-start .args .s .now) (at-start .args .c))
 
 returns : tie.Need-returns
 returns c = simp (c .before .before .number .ensures)

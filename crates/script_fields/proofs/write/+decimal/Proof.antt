@@ -31,7 +31,9 @@ decimal-returns : (t : ℕ) → decimal-lts.Need-returns (
   decimal-below t,
   decimal.Post,
 ) (decimal-at t) decimal.Post
-decimal-returns t c = decimal-none (c .before .before .args .most) (c .before .before .args .n) (c .before .before .args .at) (c .before .before .args .out .now) (c .if1 .taken)
+decimal-returns t c =
+    let at-start = c .before .before in
+    decimal-none (at-start .args .most) (at-start .args .n) (at-start .args .at) (at-start .args .out .now) (c .if1 .taken)
 
 decimal-digit-requires : (t : ℕ) → decimal-lts.Need-digit-requires (
   digit-reads.Asked,
@@ -71,7 +73,13 @@ decimal-returns-2 : (t : ℕ) → decimal-lts.Need-returns-2 (
   decimal-below t,
   decimal.Post,
 ) (decimal-at t) decimal.Post
-decimal-returns-2 t c = decimal-last (c .before .before .before .before .before .before .before .before .args .most) (c .before .before .before .before .before .before .before .before .args .n) (c .before .before .before .digit .result) _ _ (c .before .before .before .before .before .before .if1 .left) (c .before .before .before .before .before .if2 .taken) (c .before .before .before .digit .ensures) (c .before .before .put .ensures)
+decimal-returns-2 t c =
+    let at-put = c .before .before in
+    let at-digit = at-put .before in
+    let at-if2 = at-digit .before .before in
+    let at-if1 = at-if2 .before in
+    let at-start = at-if1 .before .before in
+    decimal-last (at-start .args .most) (at-start .args .n) (at-digit .digit .result) _ _ (at-if1 .if1 .left) (at-if2 .if2 .taken) (at-digit .digit .ensures) (at-put .put .ensures)
 
 decimal-sub-decimal : (t : ℕ) → decimal-lts.Need-sub-decimal (
   digit-reads.Asked,
@@ -131,7 +139,14 @@ decimal-returns-3 : (t : ℕ) → decimal-lts.Need-returns-3 (
   decimal-below t,
   decimal.Post,
 ) (decimal-at t) decimal.Post
-decimal-returns-3 t c = decimal-more (c .before .before .before .before .before .before .before .before .before .before .before .before .args .most) (c .before .before .before .before .before .before .before .before .before .before .before .before .args .n) (c .before .before .before .digit2 .result) _ _ _ (c .before .before .before .before .before .before .before .before .before .before .if1 .left) (c .before .before .before .before .before .before .before .before .before .if2 .left) (c .before .before .before .digit2 .ensures) (c .before .before .before .before .before .before .before .decimal .ensures) (c .before .before .put2 .ensures)
+decimal-returns-3 t c =
+    let at-put2 = c .before .before in
+    let at-digit2 = at-put2 .before in
+    let at-decimal = at-digit2 .before .before .before .before in
+    let at-if2 = at-decimal .before .before in
+    let at-if1 = at-if2 .before in
+    let at-start = at-if1 .before .before in
+    decimal-more (at-start .args .most) (at-start .args .n) (at-digit2 .digit2 .result) _ _ _ (at-if1 .if1 .left) (at-if2 .if2 .left) (at-digit2 .digit2 .ensures) (at-decimal .decimal .ensures) (at-put2 .put2 .ensures)
 
 pub +decimal-spec : {M : Type 1} → statement M
 +decimal-spec = close μ-decimal λ t. decimal-lts.spec (

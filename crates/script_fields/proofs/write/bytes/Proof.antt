@@ -18,7 +18,12 @@ same-length : tie.Need-same-length
 same-length c = c .before .before .put2 .kept .0 ∙ c .before .before .before .before .before .before .before .put .kept .0
 
 returns : tie.Need-returns
-returns c = then (32 ∷ []) (45 ∷ []) _ _ _ (c .before .before .before .before .before .before .before .put .ensures) (c .before .before .put2 .ensures) ∙ ap (λ (w : List ℕ). written (32 ∷ w) (standing (c .before .before .before .before .before .before .before .before .before .before .before .args .at) (c .before .before .before .before .before .before .before .before .before .before .before .args .out .now))) (sym (no-bytes (c .before .before .before .before .before .before .before .before .before .before .before .args .list .now) (c .before .before .before .before .if1 .taken)))
+returns c =
+    let at-put2 = c .before .before in
+    let at-if1 = at-put2 .before .before in
+    let at-put = at-if1 .before .before .before in
+    let at-start = at-put .before .before .before .before in
+    then (32 ∷ []) (45 ∷ []) _ _ _ (at-put .put .ensures) (at-put2 .put2 .ensures) ∙ ap (λ (w : List ℕ). written (32 ∷ w) (standing (at-start .args .at) (at-start .args .out .now))) (sym (no-bytes (at-start .args .list .now) (at-if1 .if1 .taken)))
 
 pairs-requires : tie.Need-pairs-requires
 pairs-requires c κs = search needs
@@ -27,7 +32,12 @@ same-length-2 : tie.Need-same-length-2
 same-length-2 c = c .before .before .pairs .kept .0 ∙ c .before .before .before .before .before .before .before .put .kept .0
 
 returns-2 : tie.Need-returns-2
-returns-2 c = then (32 ∷ []) (hexText (c .before .before .before .before .before .before .before .before .before .before .before .args .list .now)) _ _ _ (c .before .before .before .before .before .before .before .put .ensures) (c .before .before .pairs .ensures) ∙ ap (λ (w : List ℕ). written (32 ∷ w) (standing (c .before .before .before .before .before .before .before .before .before .before .before .args .at) (c .before .before .before .before .before .before .before .before .before .before .before .args .out .now))) (sym (some-bytes (c .before .before .before .before .before .before .before .before .before .before .before .args .list .now) (c .before .before .before .before .if1 .left)))
+returns-2 c =
+    let at-pairs = c .before .before in
+    let at-if1 = at-pairs .before .before in
+    let at-put = at-if1 .before .before .before in
+    let at-start = at-put .before .before .before .before in
+    then (32 ∷ []) (hexText (at-start .args .list .now)) _ _ _ (at-put .put .ensures) (at-pairs .pairs .ensures) ∙ ap (λ (w : List ℕ). written (32 ∷ w) (standing (at-start .args .at) (at-start .args .out .now))) (sym (some-bytes (at-start .args .list .now) (at-if1 .if1 .left)))
 
 pub bytes-spec : {M : Type 1} → statement M
 bytes-spec = tie.close (tie.spec put-requires put-requires-2 same-length returns pairs-requires same-length-2 returns-2)

@@ -17,7 +17,11 @@ same-length : tie.Need-same-length
 same-length c = c .before .before .number .kept .0 ∙ c .before .before .before .before .before .before .put .kept .0
 
 returns : tie.Need-returns
-returns c = then (32 ∷ []) (decimal (c .before .before .before .before .before .before .before .before .before .args .n)) _ _ _ (c .before .before .before .before .before .before .put .ensures) (c .before .before .number .ensures)
+returns c =
+    let at-number = c .before .before in
+    let at-put = at-number .before .before .before .before in
+    let at-start = at-put .before .before .before in
+    then (32 ∷ []) (decimal (at-start .args .n)) _ _ _ (at-put .put .ensures) (at-number .number .ensures)
 
 pub field-spec : {M : Type 1} → statement M
 field-spec = tie.close (tie.spec put-requires number-requires same-length returns)

@@ -42,22 +42,32 @@ loop-less c = omega arith
 
 loop-again : tie.Need-loop-again Inv-loop μ-loop
 loop-again c =
-    let l = c .before .before .before .before .before .before .before .before .before .before .before .before .before .before .before .args .list .now in
-    let i = c .before .before .before .before .before .before .before .before .before .before .before .before .loop .i in
-    let o = standing (c .before .before .before .before .before .before .before .before .before .before .before .before .loop .next) (c .before .before .before .before .before .before .before .before .before .before .before .before .loop .out) in (
+    let at-put2 = c .before .before in
+    let at-hex2 = at-put2 .before in
+    let at-put = at-hex2 .before .before .before .before in
+    let at-hex = at-put .before in
+    let at-loop-test = at-hex .before .before .before in
+    let at-loop = at-loop-test .before in
+    let at-start = at-loop .before .before .before in
+    let l = at-start .args .list .now in
+    let i = at-loop .loop .i in
+    let o = standing (at-loop .loop .next) (at-loop .loop .out) in (
       omega arith,
-      c .before .before .put2 .kept .0 ∙ c .before .before .before .before .before .before .before .put .kept .0 ∙ c .before .before .before .before .before .before .before .before .before .before .before .before .loop .inv .1,
-      left-to-write (hexText (drop i l)) (c .before .before .before .before .before .before .before .before .hex .result ∷ c .before .before .before .hex2 .result ∷ []) (hexText (drop (i + 1) l)) o _ _
-          (simp (c .before .before .before .before .before .before .before .before .hex .ensures, c .before .before .before .hex2 .ensures) (hex-next l i (c .before .before .before .before .before .before .before .before .before .before .before .loop-test .taken)))
-          (then (c .before .before .before .before .before .before .before .before .hex .result ∷ []) (c .before .before .before .hex2 .result ∷ []) o _ _ (c .before .before .before .before .before .before .before .put .ensures) (c .before .before .put2 .ensures))
-          (c .before .before .before .before .before .before .before .before .before .before .before .before .loop .inv .2),
+      at-put2 .put2 .kept .0 ∙ at-put .put .kept .0 ∙ at-loop .loop .inv .1,
+      left-to-write (hexText (drop i l)) (at-hex .hex .result ∷ at-hex2 .hex2 .result ∷ []) (hexText (drop (i + 1) l)) o _ _
+          (simp (at-hex .hex .ensures, at-hex2 .hex2 .ensures) (hex-next l i (at-loop-test .loop-test .taken)))
+          (then (at-hex .hex .result ∷ []) (at-hex2 .hex2 .result ∷ []) o _ _ (at-put .put .ensures) (at-put2 .put2 .ensures))
+          (at-loop .loop .inv .2),
     )
 
 same-length : tie.Need-same-length Inv-loop μ-loop
 same-length c = c .before .loop .inv .1
 
 returns : tie.Need-returns Inv-loop μ-loop
-returns c = all-written (hexText (drop (c .before .loop .i) (c .before .before .before .before .args .list .now))) _ _ (hex-end (c .before .before .before .before .args .list .now) (c .before .loop .i) (c .loop-test .left)) (c .before .loop .inv .2)
+returns c =
+    let at-loop = c .before in
+    let at-start = at-loop .before .before .before in
+    all-written (hexText (drop (at-loop .loop .i) (at-start .args .list .now))) _ _ (hex-end (at-start .args .list .now) (at-loop .loop .i) (c .loop-test .left)) (at-loop .loop .inv .2)
 
 pub pairs-spec : {M : Type 1} → statement M
 pairs-spec = tie.close (tie.spec Inv-loop μ-loop loop-holds shared-slice-read-b hex-requires put-requires hex-requires-2 put-requires-2 add-i loop-less loop-again same-length returns)

@@ -36,7 +36,11 @@ loop-less : tie.Need-loop-less Inv-loop μ-loop
 loop-less c = omega arith
 
 loop-again : tie.Need-loop-again Inv-loop μ-loop
-loop-again c = (omega arith, omega arith, sum-next (c .before .before .before .loop .h) (c .wide .result) _ (c .before .before .before .before .before .args .list .now) (c .before .before .before .loop .i) (c .before .before .loop-test .taken) (c .wide .ensures .0) (c .before .before .before .loop .inv .2))
+loop-again c =
+    let at-loop-test = c .before .before in
+    let at-loop = at-loop-test .before in
+    let at-start = at-loop .before .before in
+    (omega arith, omega arith, sum-next (at-loop .loop .h) (c .wide .result) _ (at-start .args .list .now) (at-loop .loop .i) (at-loop-test .loop-test .taken) (c .wide .ensures .0) (at-loop .loop .inv .2))
 
 returns : tie.Need-returns Inv-loop μ-loop
 returns c = sym (sum-end (c .before .loop .h) (c .before .before .before .args .list .now) (c .before .loop .i) (c .loop-test .left)) ∙ c .before .loop .inv .2

@@ -33,7 +33,11 @@ loop-less : tie.Need-loop-less Inv-loop μ-loop
 loop-less c = omega arith
 
 loop-again : tie.Need-loop-again Inv-loop μ-loop
-loop-again c = (omega arith, ap (λ (x : ℕ). sumFrom x (drop (c .before .before .before .before .loop .i + 1) (c .before .before .before .before .before .before .args .list .now))) (c .mix .ensures) ∙ sum-next (c .before .before .before .before .loop .sum) (c .before .w8 .result) _ (c .before .before .before .before .before .before .args .list .now) (c .before .before .before .before .loop .i) (c .before .before .before .loop-test .taken) (c .before .w8 .ensures) (c .before .before .before .before .loop .inv .1))
+loop-again c =
+    let at-loop-test = c .before .before .before in
+    let at-loop = at-loop-test .before in
+    let at-start = at-loop .before .before in
+    (omega arith, ap (λ (x : ℕ). sumFrom x (drop (at-loop .loop .i + 1) (at-start .args .list .now))) (c .mix .ensures) ∙ sum-next (at-loop .loop .sum) (c .before .w8 .result) _ (at-start .args .list .now) (at-loop .loop .i) (at-loop-test .loop-test .taken) (c .before .w8 .ensures) (at-loop .loop .inv .1))
 
 returns : tie.Need-returns Inv-loop μ-loop
 returns c = sym (sum-end (c .before .loop .sum) (c .before .before .before .args .list .now) (c .before .loop .i) (c .loop-test .left)) ∙ c .before .loop .inv .1

@@ -66,7 +66,26 @@ bytes-requires c κs = search needs
 
 returns : tie.Need-returns
 unfolding sumFrom
-returns c = simp (c .bytes .ensures, c .before .mix8 .ensures, c .before .before .w87 .ensures, c .before .before .before .mix7 .ensures, c .before .before .before .before .w86 .ensures, c .before .before .before .before .before .number4 .ensures, c .before .before .before .before .before .before .mix6 .ensures, c .before .before .before .before .before .before .before .w85 .ensures, c .before .before .before .before .before .before .before .before .number3 .ensures, c .before .before .before .before .before .before .before .before .before .mix5 .ensures, c .before .before .before .before .before .before .before .before .before .before .w84 .ensures, c .before .before .before .before .before .before .before .before .before .before .before .number2 .ensures, c .before .before .before .before .before .before .before .before .before .before .before .before .mix4 .ensures, c .before .before .before .before .before .before .before .before .before .before .before .before .before .w83 .ensures, c .before .before .before .before .before .before .before .before .before .before .before .before .before .before .number .ensures, c .before .before .before .before .before .before .before .before .before .before .before .before .before .before .before .mix3 .ensures, c .before .before .before .before .before .before .before .before .before .before .before .before .before .before .before .before .w82 .ensures, c .before .before .before .before .before .before .before .before .before .before .before .before .before .before .before .before .before .mix2 .ensures, c .before .before .before .before .before .before .before .before .before .before .before .before .before .before .before .before .before .before .w8 .ensures, c .before .before .before .before .before .before .before .before .before .before .before .before .before .before .before .before .before .before .before .mix .ensures)
+returns c =
+    let at-w87 = c .before .before in
+    let at-mix7 = at-w87 .before in
+    let at-w86 = at-mix7 .before in
+    let at-number4 = at-w86 .before in
+    let at-mix6 = at-number4 .before in
+    let at-w85 = at-mix6 .before in
+    let at-number3 = at-w85 .before in
+    let at-mix5 = at-number3 .before in
+    let at-w84 = at-mix5 .before in
+    let at-number2 = at-w84 .before in
+    let at-mix4 = at-number2 .before in
+    let at-w83 = at-mix4 .before in
+    let at-number = at-w83 .before in
+    let at-mix3 = at-number .before in
+    let at-w82 = at-mix3 .before in
+    let at-mix2 = at-w82 .before in
+    let at-w8 = at-mix2 .before in
+    let at-mix = at-w8 .before in
+    simp (c .bytes .ensures, c .before .mix8 .ensures, at-w87 .w87 .ensures, at-mix7 .mix7 .ensures, at-w86 .w86 .ensures, at-number4 .number4 .ensures, at-mix6 .mix6 .ensures, at-w85 .w85 .ensures, at-number3 .number3 .ensures, at-mix5 .mix5 .ensures, at-w84 .w84 .ensures, at-number2 .number2 .ensures, at-mix4 .mix4 .ensures, at-w83 .w83 .ensures, at-number .number .ensures, at-mix3 .mix3 .ensures, at-w82 .w82 .ensures, at-mix2 .mix2 .ensures, at-w8 .w8 .ensures, at-mix .mix .ensures)
 
 pub header-spec : {M : Type 1} → statement M
 header-spec =

@@ -34,7 +34,15 @@ mix-requires-4 c κs = search needs
 
 returns : tie.Need-returns
 unfolding sumFrom replyNumbers
-returns c = simp (c .mix4 .ensures, c .before .w83 .ensures, c .before .before .mix3 .ensures, c .before .before .before .w82 .ensures, c .before .before .before .before .number .ensures, c .before .before .before .before .before .mix2 .ensures, c .before .before .before .before .before .before .one .ensures, c .before .before .before .before .before .before .before .mix .ensures, c .before .before .before .before .before .before .before .before .w8 .ensures)
+returns c =
+    let at-mix3 = c .before .before in
+    let at-w82 = at-mix3 .before in
+    let at-number = at-w82 .before in
+    let at-mix2 = at-number .before in
+    let at-one = at-mix2 .before in
+    let at-mix = at-one .before in
+    let at-w8 = at-mix .before in
+    simp (c .mix4 .ensures, c .before .w83 .ensures, at-mix3 .mix3 .ensures, at-w82 .w82 .ensures, at-number .number .ensures, at-mix2 .mix2 .ensures, at-one .one .ensures, at-mix .mix .ensures, at-w8 .w8 .ensures)
 
 pub reply-spec : {M : Type 1} → statement M
 reply-spec =

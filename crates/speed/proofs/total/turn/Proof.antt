@@ -49,7 +49,20 @@ sent-requires c κs = search needs
 
 returns : tie.Need-returns
 unfolding sumFrom turnNumbers
-returns c = simp (c .sent .ensures, c .before .part .ensures .holds, c .before .before .mix6 .ensures, c .before .before .before .low .ensures, c .before .before .before .before .mix5 .ensures, c .before .before .before .before .before .w83 .ensures, c .before .before .before .before .before .before .mix4 .ensures, c .before .before .before .before .before .before .before .w82 .ensures, c .before .before .before .before .before .before .before .before .number .ensures, c .before .before .before .before .before .before .before .before .before .mix3 .ensures, c .before .before .before .before .before .before .before .before .before .before .mix2 .ensures, c .before .before .before .before .before .before .before .before .before .before .before .one .ensures, c .before .before .before .before .before .before .before .before .before .before .before .before .mix .ensures, c .before .before .before .before .before .before .before .before .before .before .before .before .before .w8 .ensures)
+returns c =
+    let at-mix6 = c .before .before in
+    let at-low = at-mix6 .before in
+    let at-mix5 = at-low .before in
+    let at-w83 = at-mix5 .before in
+    let at-mix4 = at-w83 .before in
+    let at-w82 = at-mix4 .before in
+    let at-number = at-w82 .before in
+    let at-mix3 = at-number .before in
+    let at-mix2 = at-mix3 .before in
+    let at-one = at-mix2 .before in
+    let at-mix = at-one .before in
+    let at-w8 = at-mix .before in
+    simp (c .sent .ensures, c .before .part .ensures .holds, at-mix6 .mix6 .ensures, at-low .low .ensures, at-mix5 .mix5 .ensures, at-w83 .w83 .ensures, at-mix4 .mix4 .ensures, at-w82 .w82 .ensures, at-number .number .ensures, at-mix3 .mix3 .ensures, at-mix2 .mix2 .ensures, at-one .one .ensures, at-mix .mix .ensures, at-w8 .w8 .ensures)
 
 pub turn-spec : {M : Type 1} → statement M
 turn-spec =
