@@ -3,7 +3,7 @@
 use mathlib.Core.Path.{_≡_}
 use Prim.Native.Nat.{ℕ}
 use mathlib.Core.Bool.{true, false}
-use mathlib.Core.List.{List, []}
+use mathlib.Core.List.{List}
 use lib.ListN.{replicate}
 use Rattle.parts.specs.Parts.{zeros}
 use Rattle.fdl.specs.declared.parameters.Parameters.{Parameters}
@@ -51,7 +51,7 @@ operating m = stateIs (entered Operate (m .state)) m
 abbrev pub emptyBench : ℕ → Bench
 emptyBench limit = record { unit = operating (benchCreated limit .master); setup = zeros 512; inputs = replicate 8 7 }
 
--- a balance with ident 0x1234 and groups 0, user parameters and no configuration bytes
+-- a balance with ident 0x1234 and groups 0, user parameters and configuration
 abbrev pub caseAddition : ℕ → ℕ → Addition
 caseAddition address image =
     record {
@@ -82,9 +82,9 @@ abbrev pub dataTelegram : ℕ → Telegram
 dataTelegram status = Data Absent Absent status
 
 -- an add, a turn and a reply do what their contracts say, on the pools of the bench and on fresh ones
-abbrev pub PlacedOn : Bench → ℕ → ℕ → List ℕ → Placed → Type 0
-PlacedOn b address image user r =
-    Adding (b .unit) (caseAddition address image) user [] (b .setup) (b .inputs) (zeros 8) (zeros 8) (r .bench .setup) (r .bench .inputs) (r .outputs) (r .diags)
+abbrev pub PlacedOn : Bench → ℕ → ℕ → List ℕ → List ℕ → Placed → Type 0
+PlacedOn b address image user config r =
+    Adding (b .unit) (caseAddition address image) user config (b .setup) (b .inputs) (zeros 8) (zeros 8) (r .bench .setup) (r .bench .inputs) (r .outputs) (r .diags)
     (record { refusal = r .refusal; handle = r .handle; master = r .bench .unit })
 
 pub record SeenOn (b : Bench) (time : ℕ) (r : Seen) : Type 0 where

@@ -78,8 +78,8 @@ pub fn empty(limit: u8) -> Bench
 }
 
 // One balance more, with the ident and groups of the first trial.
-pub fn add(b: Bench, address: u8, image: usize, user: &[u8]) -> Placed
-    ensures { λ r. ⌜ PlacedOn b address image (now (user .entry)) r ⌝ }
+pub fn add(b: Bench, address: u8, image: usize, user: &[u8], config: &[u8]) -> Placed
+    ensures { λ r. ⌜ PlacedOn b address image (now (user .entry)) (now (config .entry)) r ⌝ }
 {
     let options = PeripheralOptions {
         ident_number: 0x1234,
@@ -100,7 +100,6 @@ pub fn add(b: Bench, address: u8, image: usize, user: &[u8]) -> Placed
         output_len: 0,
         room: 0,
     };
-    let config = [0u8; 0];
     let mut setup = b.setup;
     let mut inputs = b.inputs;
     let mut outputs = [0u8; 8];
@@ -109,7 +108,7 @@ pub fn add(b: Bench, address: u8, image: usize, user: &[u8]) -> Placed
     let added = unit.add(
         addition,
         user,
-        &config,
+        config,
         &mut setup,
         &mut inputs,
         &mut outputs,

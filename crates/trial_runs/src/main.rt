@@ -24,6 +24,9 @@ const ADDRESS: u8 = 8;
 // When the first global control goes out: the eighth trial counts from here.
 const CONTROL: u64 = 1000;
 
+// The configuration of a balance with one byte of input: one identifier byte.
+const ONE_INPUT: [u8; 1] = [0x10];
+
 // States and events by their numbers.
 const OFFLINE: u8 = 0;
 
@@ -119,9 +122,11 @@ fn step(b: Bench, done: u8, steps: u8) -> Bench {
     b
 }
 
-// One balance that has answered the first `steps` requests as it should: 0 leaves it Offline, 4 in PreDataExchange.
+// One balance with an image of no byte or one that has answered the first `steps` requests as it should: 0 leaves it Offline, 4 in
+// PreDataExchange.
 fn raised(limit: u8, image: usize, steps: u8, user: &[u8]) -> Bench {
-    let added = add(empty(limit), ADDRESS, image, user);
+    let config = parts::part(&ONE_INPUT, 0, image);
+    let added = add(empty(limit), ADDRESS, image, user, config);
     let placed = added.bench;
     let t = turn(placed, CONTROL);
     let first = t.bench;
@@ -370,7 +375,7 @@ fn one_byte_image() -> bool {
 
 // A balance with no user parameters and no image.
 fn add_plain(b: Bench, address: u8) -> Placed {
-    add(b, address, 0, &[0u8; 0])
+    add(b, address, 0, &[0u8; 0], &[0u8; 0])
 }
 
 // The number of the add that comes after so many, all of which were done; 255 where one of them was not.
@@ -399,7 +404,7 @@ fn full_table() -> bool {
 
 // The number of an add with so many bytes of user parameters.
 fn add_with(user: &[u8]) -> u8 {
-    let placed = add(empty(1), ADDRESS, 0, user);
+    let placed = add(empty(1), ADDRESS, 0, user, &[0u8; 0]);
     placed.refusal
 }
 

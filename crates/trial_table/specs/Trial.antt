@@ -29,7 +29,7 @@ own = 2
 abbrev pub address : ℕ
 address = 8
 
--- the pools are lent whole: 3 bytes of set-up data and one of input; there are no outputs, and no room for diagnosis
+-- the pools are lent whole: 4 bytes of set-up data and one of input; there are no outputs, and no room for diagnosis
 abbrev pub poolsAre : List ℕ → List ℕ → Pools
 poolsAre setup inputs = record { setup = setup; inputs = inputs; outputs = []; diags = [] }
 
@@ -37,7 +37,7 @@ abbrev pub trialParameters : ℕ → Parameters
 trialParameters limit =
     record {
       «slot_time» = 200;
-      «setup_pool» = 3;
+      «setup_pool» = 4;
       «input_pool» = 1;
       «output_pool» = 0;
       «diag_pool» = 0;
@@ -51,7 +51,11 @@ trialParameters limit =
 
 -- ---- its calls
 
--- the balance, with these user parameters, an empty configuration, and an input image of so many bytes
+-- the configuration of a balance with an input image of no byte or one: identifier bytes that add up to it, 0x10 for one byte of input
+abbrev pub configFor : ℕ → List ℕ
+configFor image = take image (0x10 ∷ [])
+
+-- the balance, with these user parameters, and an input image of so many bytes with the configuration for it
 abbrev pub addTrial : List ℕ → ℕ → Call
 addTrial user image =
     add
@@ -74,11 +78,11 @@ addTrial user image =
       «output_len» = 0;
       room = 0;
     })
-    user [] (record { setup = 3; inputs = 1; outputs = 0; diags = 0 })
+    user (configFor image) (record { setup = 4; inputs = 1; outputs = 0; diags = 0 })
 
 -- a turn at that time
 abbrev pub trialTurn : ℕ → Call
-trialTurn time = turn time false 3 0 (zeros 244)
+trialTurn time = turn time false 4 0 (zeros 244)
 
 -- a reply of the balance
 abbrev pub answers : Telegram → List ℕ → Call
@@ -97,7 +101,7 @@ pub record Trial : Type 0 where
 
 -- the unit is created, the balance added, Operate entered, and the global control sent
 abbrev pub prepared : Trial → World
-prepared t = run (trialParameters (t .limit)) (poolsAre (zeros 3) (zeros 1)) (trialTurn (t .control) ∷ enter Operate ∷ addTrial (t .user) (t .image) ∷ []) .world
+prepared t = run (trialParameters (t .limit)) (poolsAre (zeros 4) (zeros 1)) (trialTurn (t .control) ∷ enter Operate ∷ addTrial (t .user) (t .image) ∷ []) .world
 
 abbrev pub balanceIn : PeripheralState → Peripheral → Peripheral
 balanceIn s p = stationIs (inState s (p .station)) p
