@@ -1,6 +1,9 @@
 // Reads call scripts (docs/SCRIPTS.md) from standard input, makes the calls on a unit and writes the answers.
 // What a line does is decided in `driver`, with exact contracts; here the lines are read, handed on, and answered.
+ghost use mathlib.Core.Path.{_≡_};
 ghost use Prim.Native.Nat.{_<_};
+ghost use lib.ListN.{length};
+ghost use Rattle.script_driver.specs.Room.{placeOf};
 use cycle::state::OperatingState;
 use fdl::parameters::Parameters;
 use fdl::telegram::Telegram;
@@ -11,6 +14,7 @@ use master::unit::DpMaster;
 use peripheral_set::PeripheralHandle;
 use script_driver::calls;
 use script_driver::pieces::Partial;
+use script_driver::room::LONGEST;
 use script_driver::run::Run;
 use script_lines::Call;
 use script_lines::Lent;
@@ -411,21 +415,23 @@ struct Work {
     at: usize,
 }
 
-// The output is written once this much waits; the longest answer has less than 4,500 bytes.
-const NEARLY_FULL: usize = 60000;
+// The output has room for four of the longest answers; once there is none left for one more, what waits is written.
+const OUTPUT: usize = 4 * LONGEST;
 
 // Writes what waits.
 fn flush(out: &[u8], at: usize) {
     io::write_all(STDOUT_FILENO, parts::part(out, 0, at));
 }
 
-// Writes what waits where that is much, and answers where the next answer goes.
-fn flushed(out: &[u8], at: usize) -> usize {
-    if NEARLY_FULL < at {
+// Writes what waits where there is no room behind it for every answer, and answers where the next one goes.
+fn flushed(out: &[u8], at: usize) -> usize
+    ensures { λ r. ⌜ r ≡ placeOf (length (now (out .entry))) at ⌝ }
+{
+    let next = script_driver::room::place(out.len(), at);
+    if next < at {
         flush(out, at);
-        return 0;
     }
-    at
+    next
 }
 
 // A piece of a line; where it ends the line, that is answered.
@@ -532,7 +538,8 @@ fn left(turns: u64, came: usize) -> u64
 // Writes what waits; an unfinished last line is no call.
 fn finish(p: Partial, out: &mut [u8], at: usize) {
     if script_driver::pieces::unfinished(p) {
-        let end = script_answers::bare(out, at, b'?');
+        let start = flushed(out, at);
+        let end = script_answers::bare(out, start, b'?');
         flush(out, end);
         return;
     }
@@ -591,7 +598,7 @@ fn main() {
     // a line has at most 2,000 bytes with its newline
     let mut text = [0u8; 1999];
     let mut chunk = [0u8; 65536];
-    let mut out = [0u8; 65536];
+    let mut out = [0u8; OUTPUT];
     all(
         &mut setup,
         &mut inputs,

@@ -2,4 +2,5 @@
 pub mod arrays;
 pub mod calls;
 pub mod pieces;
+pub mod room;
 pub mod run;
