@@ -6,7 +6,10 @@ use lib.ListN.{getD}
 use Rattle.script_lines.specs.declared.Call.{Call}
 use Rattle.script_lines.specs.declared.Call.the-variants.{Unknown}
 use Rattle.script_fields.specs.Read.{front}
-use Rattle.script_lines.specs.Call.{AddRead, ReplyRead, WriteRead, callFor, firstFor, secondFor, ReadFor, CallRead}
+use Rattle.script_lines.specs.Adding.{AddRead}
+use Rattle.script_lines.specs.Running.{ReplyRead}
+use Rattle.script_lines.specs.Handles.{WriteRead}
+use Rattle.script_lines.specs.Call.{callFor, firstFor, secondFor, ReadFor, CallRead}
 
 module _ (s a b : List ℕ) where
   -- what is read by a letter k that is the line's first byte

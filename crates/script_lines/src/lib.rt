@@ -1,6 +1,11 @@
 // Call scripts as text (docs/SCRIPTS.md): a line to a call.
 ghost use mathlib.Core.Path.{_≡_};
-ghost use Rattle.script_lines.specs.Call.{ifEnds, newCall, lendCall, poolsCall, payloadCall, stemAt, lengthsAt, additionOf, AddRead, stateCall, turnCall, isBare, replyOf, ReplyRead, heldOf, resetCall, WriteRead, wishCall, inputsCall, outputsCall, diagnosisCall, aloneCall, CallRead};
+ghost use Rattle.script_lines.specs.Fields.{ifEnds};
+ghost use Rattle.script_lines.specs.Making.{newCall, lendCall, poolsCall, payloadCall};
+ghost use Rattle.script_lines.specs.Adding.{stemAt, lengthsAt, additionOf, AddRead};
+ghost use Rattle.script_lines.specs.Running.{stateCall, turnCall, isBare, replyOf, ReplyRead};
+ghost use Rattle.script_lines.specs.Handles.{heldOf, resetCall, WriteRead, wishCall, inputsCall, outputsCall, diagnosisCall};
+ghost use Rattle.script_lines.specs.Call.{aloneCall, CallRead};
 use cycle::state::OperatingState;
 use fdl::consts::Sap;
 use fdl::parameters::Parameters;

@@ -1,6 +1,6 @@
 -- `add` meets its contract: numbers, the set-up data, and three lengths.
 use borrow.Author.Needs.{needs}
-use Rattle.script_lines.specs.Call.{addCall}
+use Rattle.script_lines.specs.Adding.{addCall}
 use Rattle.script_lines.proofs.add.Statement.{statement}
 use Rattle.script_lines.proofs.add.Tie as tie
 

@@ -1,6 +1,6 @@
 -- `addition` meets its contract: field by field.
 use mathlib.Core.Path.{refl}
-use Rattle.script_lines.specs.Call.{additionOf}
+use Rattle.script_lines.specs.Adding.{additionOf}
 use Rattle.script_lines.proofs.addition.Statement.{statement}
 use Rattle.script_lines.proofs.addition.Tie as tie
 

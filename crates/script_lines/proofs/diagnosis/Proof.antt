@@ -1,6 +1,6 @@
 -- `diagnosis` meets its contract: the fields one after the other, as the definition has them.
 use borrow.Author.Needs.{needs}
-use Rattle.script_lines.specs.Call.{diagnosisCall}
+use Rattle.script_lines.specs.Handles.{diagnosisCall}
 use Rattle.script_lines.proofs.diagnosis.Statement.{statement}
 use Rattle.script_lines.proofs.diagnosis.Tie as tie
 

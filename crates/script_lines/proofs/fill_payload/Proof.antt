@@ -1,6 +1,6 @@
 -- `fill_payload` meets its contract: the fields one after the other, as the definition has them.
 use borrow.Author.Needs.{needs}
-use Rattle.script_lines.specs.Call.{payloadCall}
+use Rattle.script_lines.specs.Making.{payloadCall}
 use Rattle.script_lines.proofs.fill_payload.Statement.{statement}
 use Rattle.script_lines.proofs.fill_payload.Tie as tie
 

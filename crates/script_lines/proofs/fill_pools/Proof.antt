@@ -1,6 +1,6 @@
 -- `fill_pools` meets its contract: the fields one after the other, as the definition has them.
 use borrow.Author.Needs.{needs}
-use Rattle.script_lines.specs.Call.{poolsCall}
+use Rattle.script_lines.specs.Making.{poolsCall}
 use Rattle.script_lines.proofs.fill_pools.Statement.{statement}
 use Rattle.script_lines.proofs.fill_pools.Tie as tie
 

@@ -1,6 +1,6 @@
 -- `inputs` meets its contract: the fields one after the other, as the definition has them.
 use borrow.Author.Needs.{needs}
-use Rattle.script_lines.specs.Call.{inputsCall}
+use Rattle.script_lines.specs.Handles.{inputsCall}
 use Rattle.script_lines.proofs.inputs.Statement.{statement}
 use Rattle.script_lines.proofs.inputs.Tie as tie
 

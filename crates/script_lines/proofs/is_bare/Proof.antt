@@ -1,6 +1,6 @@
 -- `is_bare` meets its contract: each test is one of the definition's.
 use borrow.Author.Tests.{eq-eqb, ne-eqb}
-use Rattle.script_lines.specs.Call.{isBare}
+use Rattle.script_lines.specs.Running.{isBare}
 use Rattle.script_lines.proofs.is_bare.Statement.{statement}
 use Rattle.script_lines.proofs.is_bare.Tie as tie
 

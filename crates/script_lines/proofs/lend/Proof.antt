@@ -1,6 +1,6 @@
 -- `lend` meets its contract: the fields one after the other, as the definition has them.
 use borrow.Author.Needs.{needs}
-use Rattle.script_lines.specs.Call.{lendCall}
+use Rattle.script_lines.specs.Making.{lendCall}
 use Rattle.script_lines.proofs.lend.Statement.{statement}
 use Rattle.script_lines.proofs.lend.Tie as tie
 

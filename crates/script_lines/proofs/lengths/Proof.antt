@@ -1,6 +1,6 @@
 -- `lengths` meets its contract: three numbers, one after the other.
 use borrow.Author.Needs.{needs}
-use Rattle.script_lines.specs.Call.{lengthsAt}
+use Rattle.script_lines.specs.Adding.{lengthsAt}
 use Rattle.script_lines.proofs.lengths.Statement.{statement}
 use Rattle.script_lines.proofs.lengths.Tie as tie
 

@@ -1,6 +1,6 @@
 -- `new` meets its contract: the fields one after the other, as the definition has them.
 use borrow.Author.Needs.{needs}
-use Rattle.script_lines.specs.Call.{newCall}
+use Rattle.script_lines.specs.Making.{newCall}
 use Rattle.script_lines.proofs.new.Statement.{statement}
 use Rattle.script_lines.proofs.new.Tie as tie
 

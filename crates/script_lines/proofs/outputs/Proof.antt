@@ -1,6 +1,6 @@
 -- `outputs` meets its contract: the fields one after the other, as the definition has them.
 use borrow.Author.Needs.{needs}
-use Rattle.script_lines.specs.Call.{outputsCall}
+use Rattle.script_lines.specs.Handles.{outputsCall}
 use Rattle.script_lines.proofs.outputs.Statement.{statement}
 use Rattle.script_lines.proofs.outputs.Tie as tie
 

@@ -1,6 +1,6 @@
 -- `reply` meets its contract: five numbers, and then the payload.
 use borrow.Author.Needs.{needs}
-use Rattle.script_lines.specs.Call.{replyCall}
+use Rattle.script_lines.specs.Running.{replyCall}
 use Rattle.script_lines.proofs.reply.Statement.{statement}
 use Rattle.script_lines.proofs.reply.Tie as tie
 

@@ -2,7 +2,7 @@
 use borrow.Author.Needs.{needs}
 use mathlib.Core.Path.{sym, _∙_}
 use borrow.Author.Tests.{ne-eqb}
-use Rattle.script_lines.specs.Call.{replyOf}
+use Rattle.script_lines.specs.Running.{replyOf}
 use Rattle.script_lines.proofs.reply_of.Statement.{statement}
 use Rattle.script_lines.proofs.reply_of.Tie as tie
 

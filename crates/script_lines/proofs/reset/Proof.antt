@@ -1,6 +1,6 @@
 -- `reset` meets its contract: the fields one after the other, as the definition has them.
 use borrow.Author.Needs.{needs}
-use Rattle.script_lines.specs.Call.{resetCall}
+use Rattle.script_lines.specs.Handles.{resetCall}
 use Rattle.script_lines.proofs.reset.Statement.{statement}
 use Rattle.script_lines.proofs.reset.Tie as tie
 

@@ -1,6 +1,6 @@
 -- `state` meets its contract: the fields one after the other, as the definition has them.
 use borrow.Author.Needs.{needs}
-use Rattle.script_lines.specs.Call.{stateCall}
+use Rattle.script_lines.specs.Running.{stateCall}
 use Rattle.script_lines.proofs.state.Statement.{statement}
 use Rattle.script_lines.proofs.state.Tie as tie
 

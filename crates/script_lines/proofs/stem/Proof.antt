@@ -1,6 +1,6 @@
 -- `stem` meets its contract: six numbers, one after the other.
 use borrow.Author.Needs.{needs}
-use Rattle.script_lines.specs.Call.{stemAt}
+use Rattle.script_lines.specs.Adding.{stemAt}
 use Rattle.script_lines.proofs.stem.Statement.{statement}
 use Rattle.script_lines.proofs.stem.Tie as tie
 

@@ -1,6 +1,6 @@
 -- `turn` meets its contract: the fields one after the other, as the definition has them.
 use borrow.Author.Needs.{needs}
-use Rattle.script_lines.specs.Call.{turnCall}
+use Rattle.script_lines.specs.Running.{turnCall}
 use Rattle.script_lines.proofs.turn.Statement.{statement}
 use Rattle.script_lines.proofs.turn.Tie as tie
 

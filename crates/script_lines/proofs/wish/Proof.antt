@@ -1,6 +1,6 @@
 -- `wish` meets its contract: the fields one after the other, as the definition has them.
 use borrow.Author.Needs.{needs}
-use Rattle.script_lines.specs.Call.{wishCall}
+use Rattle.script_lines.specs.Handles.{wishCall}
 use Rattle.script_lines.proofs.wish.Statement.{statement}
 use Rattle.script_lines.proofs.wish.Tie as tie
 

@@ -1,6 +1,6 @@
 -- `write` meets its contract: the handle, and then the bytes.
 use borrow.Author.Needs.{needs}
-use Rattle.script_lines.specs.Call.{writeCall}
+use Rattle.script_lines.specs.Handles.{writeCall}
 use Rattle.script_lines.proofs.write.Statement.{statement}
 use Rattle.script_lines.proofs.write.Tie as tie
 
