@@ -27,7 +27,8 @@ use Rattle.log.specs.Entries.{reached}
 use Rattle.log.specs.Words.{asksData}
 use Rattle.log.specs.Run.{run}
 use Rattle.log.specs.Promises.{imageIn}
-use Rattle.log.specs.Life.{bench, benchPools, turnAt, configured, exchanged, answersTo, afterAll, firstHalf, secondHalf, firstAnswers, secondAnswers, smallBench, noPools, twoBalances, twoAnswers}
+use Rattle.log.specs.Bench.{bench, benchPools, turnAt, configured, exchanged, answersTo, afterAll, smallBench, noPools}
+use Rattle.log.specs.Life.{firstHalf, secondHalf, firstAnswers, secondAnswers, twoBalances, twoAnswers}
 
 pub first-half : answersTo (run bench benchPools [] .world) firstHalf ≡ firstAnswers
 unfolding step inRange inForce createdOf emptyUnit addRefusal addressRefusal lengthRefusal roomRefusal searchFrom turnRefusal controlDue wishOf sweptBy sweepFrom turnPayload turnAnswer controlPayload payloadOf paramHead inside part splice roomFor putIn replyRefusal replyAt hearsOf heardOf stationTook storedLength diagsTaken diagnosisOf tookOf isImage byFlags resetDone wishDone foundIn writeRefusal

@@ -30,7 +30,7 @@ use Rattle.log.specs.Notes.{turnOf}
 use Rattle.log.specs.Entries.{slotLog, occupiedIn, reached}
 use Rattle.log.specs.Run.{runBy}
 use Rattle.log.specs.Promises.{ImageAt, ImageBy, AskedAt, AskedBy, MaskBy}
-use Rattle.log.specs.Life.{bench, benchPools, turnAt, diagnosisReply, diagnosisAnswered, started, startedBench, askedBench}
+use Rattle.log.specs.Bench.{bench, benchPools, turnAt, diagnosisReply, diagnosisAnswered, started, startedBench, askedBench}
 use Rattle.log.specs.Wrong.{plain, refusesAll, sameAnswer, doesNothing, runsAll, inventsMask}
 use Rattle.log.proofs.Wording.{wording}
 use Rattle.log.proofs.Promised.{no-mark}

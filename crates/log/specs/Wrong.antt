@@ -1,4 +1,4 @@
--- Five units that could pass for one, each wrong at every call it is about. The inputs at which each is told from the promised one stand in Life.antt.
+-- Five units that could pass for one, each wrong at every call it is about. The inputs at which each is told from the promised one stand in Bench.antt.
 -- From 01, "What the contracts have to say".
 use Prim.Native.Nat.{ℕ}
 use mathlib.Core.Bool.{Bool, false, cond}
