@@ -1,4 +1,4 @@
--- The life of one balance, computed: its answers are those of the table, and at its end the pools hold what was sent.
+-- The lives, computed: their answers are those of the tables, and at their end the pools hold what was sent.
 -- The idea: every definition computes, so each table is equal to what the definitions say by computation alone.
 use mathlib.Core.Path.{_≡_, refl}
 use Prim.Native.Nat.{ℕ}
@@ -28,6 +28,7 @@ use Rattle.log.specs.Words.{asksData}
 use Rattle.log.specs.Run.{run}
 use Rattle.log.specs.Promises.{imageIn}
 use Rattle.log.specs.Bench.{bench, benchPools, turnAt, configured, exchanged, answersTo, afterAll, smallBench, noPools}
+use Rattle.log.specs.SecondLife.{pairBench, pairPools, callsOf, answersOf, offlineTogether, setUpErrors, wishedWhileOpen}
 use Rattle.log.specs.Life.{firstHalf, secondHalf, firstAnswers, secondAnswers, twoBalances, twoAnswers}
 
 pub first-half : answersTo (run bench benchPools [] .world) firstHalf ≡ firstAnswers
@@ -42,6 +43,19 @@ pub two-lives : answersTo (run smallBench noPools [] .world) twoBalances ≡ two
 unfolding step inRange inForce createdOf emptyUnit addRefusal addressRefusal lengthRefusal roomRefusal searchFrom turnRefusal controlDue wishOf sweptBy sweepFrom turnPayload turnAnswer controlPayload payloadOf paramHead inside part splice roomFor putIn replyRefusal replyAt hearsOf heardOf stationTook storedLength diagsTaken diagnosisOf tookOf isImage byFlags resetDone wishDone foundIn writeRefusal
 two-lives = refl
 
+-- the second life, in three parts
+pub second-together : answersTo (run pairBench pairPools [] .world) (callsOf offlineTogether) ≡ answersOf offlineTogether
+unfolding step inRange inForce createdOf emptyUnit addRefusal addressRefusal lengthRefusal roomRefusal searchFrom turnRefusal controlDue wishOf sweptBy sweepFrom turnPayload turnAnswer controlPayload payloadOf paramHead inside part splice roomFor putIn replyRefusal replyAt hearsOf heardOf stationTook storedLength diagsTaken diagnosisOf tookOf isImage byFlags resetDone wishDone foundIn writeRefusal
+second-together = refl
+
+pub second-errors : answersTo (afterAll (run pairBench pairPools [] .world) (callsOf offlineTogether)) (callsOf setUpErrors) ≡ answersOf setUpErrors
+unfolding step inRange inForce createdOf emptyUnit addRefusal addressRefusal lengthRefusal roomRefusal searchFrom turnRefusal controlDue wishOf sweptBy sweepFrom turnPayload turnAnswer controlPayload payloadOf paramHead inside part splice roomFor putIn replyRefusal replyAt hearsOf heardOf stationTook storedLength diagsTaken diagnosisOf tookOf isImage byFlags resetDone wishDone foundIn writeRefusal
+second-errors = refl
+
+pub second-wishes : answersTo (afterAll (afterAll (run pairBench pairPools [] .world) (callsOf offlineTogether)) (callsOf setUpErrors)) (callsOf wishedWhileOpen) ≡ answersOf wishedWhileOpen
+unfolding step inRange inForce createdOf emptyUnit addRefusal addressRefusal lengthRefusal roomRefusal searchFrom turnRefusal controlDue wishOf sweptBy sweepFrom turnPayload turnAnswer controlPayload payloadOf paramHead inside part splice roomFor putIn replyRefusal replyAt hearsOf heardOf stationTook storedLength diagsTaken diagnosisOf tookOf isImage byFlags resetDone wishDone foundIn writeRefusal
+second-wishes = refl
+
 -- there are 32 slots
 pub thirty-two : _≡_ {A = ℕ} slots 32
 thirty-two = refl
@@ -51,6 +65,12 @@ pub pools-then : _≡_ {A = Pools} (afterAll (afterAll (run bench benchPools [] 
     (record { setup = 0 ∷ 1 ∷ 2 ∷ 0x31 ∷ []; inputs = 11 ∷ 22 ∷ []; outputs = 9 ∷ 6 ∷ []; diags = 0xAA ∷ 0xBB ∷ 0 ∷ 0 ∷ 0 ∷ 0 ∷ 0 ∷ 0 ∷ [] })
 unfolding step inRange inForce createdOf emptyUnit addRefusal addressRefusal lengthRefusal roomRefusal searchFrom turnRefusal controlDue wishOf sweptBy sweepFrom turnPayload turnAnswer controlPayload payloadOf paramHead inside part splice roomFor putIn replyRefusal replyAt hearsOf heardOf stationTook storedLength diagsTaken diagnosisOf tookOf isImage byFlags resetDone wishDone foundIn writeRefusal
 pools-then = refl
+
+-- and at the end of the second: what came while a diagnosis was due was not stored
+pub second-pools : _≡_ {A = Pools} (afterAll (afterAll (afterAll (run pairBench pairPools [] .world) (callsOf offlineTogether)) (callsOf setUpErrors)) (callsOf wishedWhileOpen) .pools)
+    (record { setup = 0xA1 ∷ 0xA2 ∷ 0x31 ∷ 0x10 ∷ []; inputs = 33 ∷ 44 ∷ 0 ∷ []; outputs = 0 ∷ 0 ∷ []; diags = [] })
+unfolding step inRange inForce createdOf emptyUnit addRefusal addressRefusal lengthRefusal roomRefusal searchFrom turnRefusal controlDue wishOf sweptBy sweepFrom turnPayload turnAnswer controlPayload payloadOf paramHead inside part splice roomFor putIn replyRefusal replyAt hearsOf heardOf stationTook storedLength diagsTaken diagnosisOf tookOf isImage byFlags resetDone wishDone foundIn writeRefusal
+second-pools = refl
 
 -- what is promised happens: a balance is reached and asked for data, and its image is what it sent
 pub life-asked : let a = turnOf (step (run bench benchPools configured .world) (turnAt 9) .answer) in T (reached (run bench benchPools configured .log) a 0) × T (asksData 0 (a .transmission))

@@ -8,4 +8,5 @@ pub mod Promises
 pub mod Slots
 pub mod Bench
 pub mod Life
+pub mod SecondLife
 pub mod Wrong
