@@ -54,6 +54,10 @@ lend n pool = take n pool
 abbrev pub back : ℕ → List ℕ → List ℕ → List ℕ
 back n out pool = out ++ drop n pool
 
+-- the array after a call that does f to the part that it is lent, where it is not refused
+abbrev pub afterLent : Bool → ℕ → (List ℕ → List ℕ) → List ℕ → List ℕ
+afterLent ok n f pool = back n (cond ok (f (lend n pool)) (lend n pool)) pool
+
 -- ---- calls and answers
 
 pub data Call : Type 0 where
@@ -104,10 +108,10 @@ addStep ok n l a user config lent w =
             unit = cond ok (unitAdded (w .unit) a l) (w .unit);
             pools =
                 record {
-                  setup = back (lent .setup) (cond ok (setupAfter (w .unit .used .setup) user config (lend (lent .setup) (w .pools .setup))) (lend (lent .setup) (w .pools .setup))) (w .pools .setup);
-                  inputs = back (lent .inputs) (cond ok (cleared (w .unit .used .inputs) (l .inputs) (lend (lent .inputs) (w .pools .inputs))) (lend (lent .inputs) (w .pools .inputs))) (w .pools .inputs);
-                  outputs = back (lent .outputs) (cond ok (cleared (w .unit .used .outputs) (l .outputs) (lend (lent .outputs) (w .pools .outputs))) (lend (lent .outputs) (w .pools .outputs))) (w .pools .outputs);
-                  diags = back (lent .diags) (cond ok (cleared (w .unit .used .diags) (l .room) (lend (lent .diags) (w .pools .diags))) (lend (lent .diags) (w .pools .diags))) (w .pools .diags);
+                  setup = afterLent ok (lent .setup) (setupAfter (w .unit .used .setup) user config) (w .pools .setup);
+                  inputs = afterLent ok (lent .inputs) (cleared (w .unit .used .inputs) (l .inputs)) (w .pools .inputs);
+                  outputs = afterLent ok (lent .outputs) (cleared (w .unit .used .outputs) (l .outputs)) (w .pools .outputs);
+                  diags = afterLent ok (lent .diags) (cleared (w .unit .used .diags) (l .room)) (w .pools .diags);
                 };
           };
       answer = added n (cond ok (record { slot = firstEmpty (w .unit .occupied); address = a .address }) (record { slot = 255; address = 255 }));
@@ -132,9 +136,9 @@ replyStep ok n is t payload ni nd w =
             pools =
                 record {
                   setup = w .pools .setup;
-                  inputs = back ni (cond ok (inputsOf (is .event) (carried t payload) (openBalance (w .unit)) (lend ni (w .pools .inputs))) (lend ni (w .pools .inputs))) (w .pools .inputs);
+                  inputs = afterLent ok ni (inputsOf (is .event) (carried t payload) (openBalance (w .unit))) (w .pools .inputs);
                   outputs = w .pools .outputs;
-                  diags = back nd (cond ok (diagsOf (takes t (openBalance (w .unit)) (length payload)) (openBalance (w .unit)) payload (lend nd (w .pools .diags))) (lend nd (w .pools .diags))) (w .pools .diags);
+                  diags = afterLent ok nd (diagsOf (takes t (openBalance (w .unit)) (length payload)) (openBalance (w .unit)) payload) (w .pools .diags);
                 };
           };
       answer = replied (cond ok (replyAnswer (w .unit) is) (refusedReply n));
@@ -150,12 +154,7 @@ outputsAre q w = record { unit = w .unit; pools = record { setup = w .pools .set
 -- bytes put into the output image of p
 abbrev pub writeStep : Bool → ℕ → Peripheral → List ℕ → ℕ → World → Outcome
 writeStep ok n p bytes nq w =
-    record {
-      world =
-          outputsAre (back nq (cond ok (putIn (p .ranges .outputs) (p .ranges .«output_len») bytes (lend nq (w .pools .outputs))) (lend nq (w .pools .outputs))) (w .pools .outputs))
-          w;
-      answer = number n;
-    }
+    record { world = outputsAre (afterLent ok nq (putIn (p .ranges .outputs) (p .ranges .«output_len») bytes) (w .pools .outputs)) w; answer = number n }
 
 -- ---- the refusals, over what is lent
 
