@@ -27,14 +27,14 @@ use Rattle.log.specs.Notes.{Note, turnOf, slotAsked}
 use Rattle.log.specs.Entries.{Entry, slotLog}
 use Rattle.log.specs.Run.{run}
 use Rattle.log.specs.Slots.{cycles, frameBit, BitTold, bitSent, SentBitTold}
-use Rattle.station.proofs.Rows.{found, unfound, parameters, no-parameters, configuration, no-configuration, bad-parameters, bad-config, wants-parameters, not-ready, configured, unvalidated, diagnosed, undiagnosed, diagnosed-late, undiagnosed-late, exchanged, unused, denied}
+use Rattle.station.proofs.Rows.{comes-online, stays-offline, param-confirmed, param-unconfirmed, config-confirmed, config-unconfirmed, param-error, config-error, param-wanted, not-ready, is-configured, unvalidated, diagnosed, undiagnosed, diagnosed-late, undiagnosed-late, data-stored, data-unused, data-denied}
 use Rattle.log.proofs.Lives.{Slot, RowOf, SlotFact, always, last-asked}
 use Rattle.log.proofs.Stations.{told}
 use Rattle.log.proofs.Units.{Inv}
 use Rattle.log.proofs.Turning.{sent-there, asked-is}
 use Rattle.log.proofs.Steps.{valid-step, always-valid}
 use Rattle.log.proofs.Promised.{inv-run}
-use Rattle.log.proofs.SlotFacts.{holds}
+use Rattle.log.proofs.SlotFacts.{fact-holds}
 
 back : (b : FrameCountBit) → bitOf (bitNumber b) ≡ b
 back First = refl
@@ -45,41 +45,41 @@ back Inactive = refl
 bit-row : (s : Station) (t : Telegram) (payload : List ℕ) (n : ℕ) {k : Request} {h : Heard} → RowOf s t payload n k h
     → bitOf (h .station .fcb) ≡ cond (cycles (some k) (s .«diag_needed») t payload) (cycled (bitOf (s .fcb))) (bitOf (s .fcb))
 unfolding tookOf
-bit-row s t payload n (found x e) = rw e (back _)
-bit-row s t payload n (unfound x e) = rw e refl
-bit-row s t payload n (parameters x e) = rw e (back _)
-bit-row s t payload n (no-parameters x e) = rw e refl
-bit-row s t payload n (configuration x e) = rw e (back _)
-bit-row s t payload n (no-configuration x e) = rw e refl
-bit-row s t payload n (bad-parameters x e a) = rw e (back _)
-bit-row s t payload n (bad-config x e a b) = rw e (back _)
-bit-row s t payload n (wants-parameters x e a b c) = rw e (back _)
+bit-row s t payload n (comes-online x e) = rw e (back _)
+bit-row s t payload n (stays-offline x e) = rw e refl
+bit-row s t payload n (param-confirmed x e) = rw e (back _)
+bit-row s t payload n (param-unconfirmed x e) = rw e refl
+bit-row s t payload n (config-confirmed x e) = rw e (back _)
+bit-row s t payload n (config-unconfirmed x e) = rw e refl
+bit-row s t payload n (param-error x e a) = rw e (back _)
+bit-row s t payload n (config-error x e a b) = rw e (back _)
+bit-row s t payload n (param-wanted x e a b c) = rw e (back _)
 bit-row s t payload n (not-ready x e a b c d) = rw e (back _)
-bit-row s t payload n (configured x e a b c d) = rw e (back _)
+bit-row s t payload n (is-configured x e a b c d) = rw e (back _)
 bit-row s t payload n (unvalidated x e) = rw e refl
 bit-row s t payload n (diagnosed x d e) = rw e (back _)
 bit-row s t payload n (undiagnosed x d e) = rw e refl
 bit-row s t payload n (diagnosed-late x d e) = rw (d, e) (back _)
 bit-row s t payload n (undiagnosed-late x d e) = rw (d, e) refl
-bit-row s t payload n (exchanged j x d e f) = rw d (back _)
-bit-row s t payload n (unused j x d e f) = rw d (back _)
-bit-row s t payload n (denied x d e f) = rw d (back _)
+bit-row s t payload n (data-stored j x d e f) = rw d (back _)
+bit-row s t payload n (data-unused j x d e f) = rw d (back _)
+bit-row s t payload n (data-denied x d e f) = rw d (back _)
 
 bit-fact : (limit : ℕ) → SlotFact limit (λ (x : Slot) (l : List Note). bitOf (x .balance .station .fcb) ≡ frameBit l)
 bit-fact limit =
     record {
-      added = λ a user config used l. refl;
-      reset = λ v i a. refl;
-      wish = λ v i. i;
-      sent = λ v i q e. i;
-      fell = λ v i e. i;
-      skipped = λ v i e. i;
-      pass = λ v i. i;
-      reply = λ {x} v i q t payload n h o r. rw (last-asked v o, ← told v .due-is, ← i) (bit-row (x .balance .station) t payload n r);
+      on-added = λ a user config used l. refl;
+      on-reset = λ v i a. refl;
+      on-wish = λ v i. i;
+      on-sent = λ v i q e. i;
+      on-fell = λ v i e. i;
+      on-skipped = λ v i e. i;
+      on-rest = λ v i. i;
+      on-reply = λ {x} v i q t payload n h o r. rw (last-asked v o, ← told v .due-is, ← i) (bit-row (x .balance .station) t payload n r);
     }
 
 pub bit-told : BitTold
-bit-told = holds (λ limit x l. bitOf (x .balance .station .fcb) ≡ frameBit l) bit-fact
+bit-told = fact-holds (λ limit x l. bitOf (x .balance .station .fcb) ≡ frameBit l) bit-fact
 
 -- ---- on the wire
 

@@ -25,7 +25,7 @@ use Rattle.station.specs.State.{stateOf}
 use Rattle.station.specs.Record.{dueIs, tookOf}
 use Rattle.station.specs.Visit.{visitedOf}
 use Rattle.station.specs.Reply.{isExchanged, awaitsDiagnosis}
-use Rattle.station.proofs.Rows.{exchanging, coded, Row, diagnosis-row, parameters-row, configuration-row, data-row}
+use Rattle.station.proofs.Rows.{exchanging, coded, ReplyRow, diagnosis-row, parameters-row, configuration-row, data-row}
 use Rattle.peripheral.specs.declared.record.Peripheral.{Peripheral}
 use Rattle.peripheral.specs.Record.{newBalance, resetOf, stationIs}
 use Rattle.peripheral.specs.Visit.{wishesOf, visitedBy}
@@ -65,7 +65,7 @@ heardSlot t payload h x = slotOf none (stationIs (h .station) (x .balance)) (con
 
 -- a reply to a balance, in the words of its notes; n: how many bytes of a diagnosis are stored
 abbrev pub RowOf : Station → Telegram → List ℕ → ℕ → Request → Heard → Type 0
-RowOf s t payload n k h = Row s (tookOf (diagnosisOf payload) n s) t (taken t (length payload)) (hasStatus 3 t) (hasStatus 10 t) k h
+RowOf s t payload n k h = ReplyRow s (tookOf (diagnosisOf payload) n s) t (taken t (length payload)) (hasStatus 3 t) (hasStatus 10 t) k h
 
 -- limit: the unit's `max_retry_limit`; then the slot and its notes
 pub data Lives (limit : ℕ) : Slot → List Note → Type 0 where
@@ -80,9 +80,9 @@ pub data Lives (limit : ℕ) : Slot → List Note → Type 0 where
   drops : {x : Slot} {l : List Note} → Lives limit x l → wishesOf limit (x .balance) ≡ Drops → Lives limit (stays none (visitedOf Drops (x .balance .station)) x) (wentOffline ∷ l)
   skips : {x : Slot} {l : List Note} → Lives limit x l → wishesOf limit (x .balance) ≡ Skips → Lives limit (stays none (visitedOf Skips (x .balance .station)) x) l
   -- a turn does not visit it, or the reply is another slot's: no request stays open
-  passed : {x : Slot} {l : List Note} → Lives limit x l → Lives limit (slotOf none (x .balance) (x .image)) l
+  rests : {x : Slot} {l : List Note} → Lives limit x l → Lives limit (slotOf none (x .balance) (x .image)) l
   -- its request is answered
-  answers : {x : Slot} {l : List Note} {q : Request} {t : Telegram} {payload : List ℕ} {h : Heard} → Lives limit x l → x .request ≡ some q → (n : ℕ) → RowOf (x .balance .station) t payload n q h
+  gets : {x : Slot} {l : List Note} {q : Request} {t : Telegram} {payload : List ℕ} {h : Heard} → Lives limit x l → x .request ≡ some q → (n : ℕ) → RowOf (x .balance .station) t payload n q h
       → Lives limit (heardSlot t payload h x) (got t payload (h .event) ∷ l)
 
 -- ---- a visit
@@ -148,7 +148,7 @@ status-is n RequestTelegram = refl
 
 module _ (t : Telegram) (p : Peripheral) (payload inputs diags : List ℕ) where
   coded-row : (k : Request) → Fits (p .station) (kindNumber k)
-      → Row (p .station) (tookOf (diagnosisOf payload) (storedLength p payload diags) (p .station)) t (taken t (length payload)) (coded 3 t) (coded 10 t) k (hearsOf t p payload inputs diags)
+      → ReplyRow (p .station) (tookOf (diagnosisOf payload) (storedLength p payload diags) (p .station)) t (taken t (length payload)) (coded 3 t) (coded 10 t) k (hearsOf t p payload inputs diags)
   unfolding hearsOf stationTook
   coded-row Diagnosis f = diagnosis-row _ _ _ _ _ _ (fits-diagnosis (stateOf (p .station .state)) (p .station .«diag_needed») f)
   coded-row Parameters f = parameters-row _ _ _ _ _ _ (fits-parameters (stateOf (p .station .state)) (p .station .«diag_needed») f)
@@ -175,8 +175,8 @@ opened (wishes {x = x} {l = l} v) = opened-wished (x .request) (x .balance .stat
 opened {limit} (sends {x = x} v e) = (refl, rw e at (wish-fits (x .balance .options .«has_user_parameters») (x .balance .options .«has_config») (x .balance .station) limit))
 opened (drops v e) = tt
 opened (skips v e) = tt
-opened (passed v) = tt
-opened (answers v o n r) = tt
+opened (rests v) = tt
+opened (gets v o n r) = tt
 
 module _ {limit : ℕ} {x : Slot} {l : List Note} {q : Request} (v : Lives limit x l) (o : x .request ≡ some q) where
   open-is : AskedLast (some q) (x .balance .station) l
@@ -187,28 +187,28 @@ module _ {limit : ℕ} {x : Slot} {l : List Note} {q : Request} (v : Lives limit
 
   -- the request that is open is answered
   pub replies : (t : Telegram) (payload inputs diags : List ℕ) → let h = hearsOf t (x .balance) payload inputs diags in Lives limit (heardSlot t payload h x) (got t payload (h .event) ∷ l)
-  replies t payload inputs diags = answers v o (storedLength (x .balance) payload diags) (replied-row t (x .balance) payload inputs diags q (open-is .1))
+  replies t payload inputs diags = gets v o (storedLength (x .balance) payload diags) (replied-row t (x .balance) payload inputs diags q (open-is .1))
 
 -- ---- a fact of slots, as its laws; each may use what is known of the slot before
 
 pub record SlotFact (limit : ℕ) (P : Slot → List Note → Type 0) : Type 0 where
-  pub added : (a : Addition) (user config : List ℕ) (used : Used) (l : List Note) → P (newSlot a (lengthsOf a user config) used) (wasAdded a ∷ l)
-  pub reset : {x : Slot} {l : List Note} → Lives limit x l → P x l → (address : ℕ) → P (movedSlot address x) (readdressed ∷ l)
-  pub wish : {x : Slot} {l : List Note} → Lives limit x l → P x l → P (stays (x .request) (dueIs true (x .balance .station)) x) (wished ∷ l)
-  pub sent : {x : Slot} {l : List Note} → Lives limit x l → P x l → (q : Request) → wishesOf limit (x .balance) ≡ Sends q → P (stays (some q) (visitedOf (Sends q) (x .balance .station)) x) (asked q ∷ l)
-  pub fell : {x : Slot} {l : List Note} → Lives limit x l → P x l → wishesOf limit (x .balance) ≡ Drops → P (stays none (visitedOf Drops (x .balance .station)) x) (wentOffline ∷ l)
-  pub skipped : {x : Slot} {l : List Note} → Lives limit x l → P x l → wishesOf limit (x .balance) ≡ Skips → P (stays none (visitedOf Skips (x .balance .station)) x) l
-  pub pass : {x : Slot} {l : List Note} → Lives limit x l → P x l → P (slotOf none (x .balance) (x .image)) l
-  pub reply : {x : Slot} {l : List Note} → Lives limit x l → P x l → (q : Request) (t : Telegram) (payload : List ℕ) (n : ℕ) (h : Heard) → x .request ≡ some q → RowOf (x .balance .station) t payload n q h
+  pub on-added : (a : Addition) (user config : List ℕ) (used : Used) (l : List Note) → P (newSlot a (lengthsOf a user config) used) (wasAdded a ∷ l)
+  pub on-reset : {x : Slot} {l : List Note} → Lives limit x l → P x l → (address : ℕ) → P (movedSlot address x) (readdressed ∷ l)
+  pub on-wish : {x : Slot} {l : List Note} → Lives limit x l → P x l → P (stays (x .request) (dueIs true (x .balance .station)) x) (wished ∷ l)
+  pub on-sent : {x : Slot} {l : List Note} → Lives limit x l → P x l → (q : Request) → wishesOf limit (x .balance) ≡ Sends q → P (stays (some q) (visitedOf (Sends q) (x .balance .station)) x) (asked q ∷ l)
+  pub on-fell : {x : Slot} {l : List Note} → Lives limit x l → P x l → wishesOf limit (x .balance) ≡ Drops → P (stays none (visitedOf Drops (x .balance .station)) x) (wentOffline ∷ l)
+  pub on-skipped : {x : Slot} {l : List Note} → Lives limit x l → P x l → wishesOf limit (x .balance) ≡ Skips → P (stays none (visitedOf Skips (x .balance .station)) x) l
+  pub on-rest : {x : Slot} {l : List Note} → Lives limit x l → P x l → P (slotOf none (x .balance) (x .image)) l
+  pub on-reply : {x : Slot} {l : List Note} → Lives limit x l → P x l → (q : Request) (t : Telegram) (payload : List ℕ) (n : ℕ) (h : Heard) → x .request ≡ some q → RowOf (x .balance .station) t payload n q h
       → P (heardSlot t payload h x) (got t payload (h .event) ∷ l)
 
 module _ {limit : ℕ} {P : Slot → List Note → Type 0} (f : SlotFact limit P) where
   pub always : {x : Slot} {l : List Note} → Lives limit x l → P x l
-  always (joins a user config used l) = f .added a user config used l
-  always (moves v a) = f .reset v (always v) a
-  always (wishes v) = f .wish v (always v)
-  always (sends v e) = f .sent v (always v) _ e
-  always (drops v e) = f .fell v (always v) e
-  always (skips v e) = f .skipped v (always v) e
-  always (passed v) = f .pass v (always v)
-  always (answers v o n r) = f .reply v (always v) _ _ _ n _ o r
+  always (joins a user config used l) = f .on-added a user config used l
+  always (moves v a) = f .on-reset v (always v) a
+  always (wishes v) = f .on-wish v (always v)
+  always (sends v e) = f .on-sent v (always v) _ e
+  always (drops v e) = f .on-fell v (always v) e
+  always (skips v e) = f .on-skipped v (always v) e
+  always (rests v) = f .on-rest v (always v)
+  always (gets v o n r) = f .on-reply v (always v) _ _ _ n _ o r

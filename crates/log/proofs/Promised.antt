@@ -35,7 +35,7 @@ use Rattle.log.specs.Promises.{ImageTold, FrameTold, AskedTold, ReachedT
 use Rattle.log.proofs.Wording.{is-true, ready, wording, due-wording}
 use Rattle.log.proofs.Steps.{turn-accepted, reply-accepted, refused-same, valid-step, always-valid}
 use Rattle.log.proofs.Lives.{Lives}
-use Rattle.log.proofs.Stations.{image}
+use Rattle.log.proofs.Stations.{image-is}
 use Rattle.log.proofs.Units.{slotAt, Inv, InvAt, inv-enter, inv-write, inv-hand, inv-wish, inv-reset}
 use Rattle.log.proofs.Lent.{lent-same}
 use Rattle.log.proofs.Adding.{first-empty, inv-add}
@@ -120,7 +120,7 @@ lives-run u pools cs s h = let i = inv-run u pools cs in i .lives s (there (run 
 -- ---- the promises
 
 pub image-told : ImageTold
-image-told u pools cs s h = image (lives-run u pools cs s h)
+image-told u pools cs s h = image-is (lives-run u pools cs s h)
 
 pub frame-told : FrameTold
 frame-told u pools cs = inv-run u pools cs .frame-is
@@ -142,7 +142,7 @@ read-by w l i h n z =
     let lent = lend n (w .pools .inputs) in
     let q = both-hold (eqb (length lent) (w .unit .parameters .«input_pool»)) (isOccupied (w .unit .occupied) (h .slot)) z in
     let o = and-right (ltb (h .slot) slots) (getD (w .unit .occupied) (h .slot) false) (q .1) in
-    rw (z, found-there (w .unit) (i .valid) h o, lent-same n (w .unit .parameters .«input_pool») (w .pools .inputs) (eqb-true (length lent) (w .unit .parameters .«input_pool») (q .0))) (image (i .lives (h .slot) o))
+    rw (z, found-there (w .unit) (i .valid) h o, lent-same n (w .unit .parameters .«input_pool») (w .pools .inputs) (eqb-true (length lent) (w .unit .parameters .«input_pool») (q .0))) (image-is (i .lives (h .slot) o))
 
 pub never-overlap : NeverOverlap
 never-overlap u pools cs s t h k d =

@@ -35,7 +35,7 @@ use Rattle.log.specs.Calls.{World, lend, back, reply, replied, replyStep
 use Rattle.log.specs.Notes.{got}
 use Rattle.log.specs.Entries.{Entry, target, Place, slotLog, placeNext, placeReplied, frameOf, occupiedIn, Moved}
 use Rattle.log.specs.Promises.{frameIn}
-use Rattle.log.proofs.Lives.{passed, replies}
+use Rattle.log.proofs.Lives.{rests, replies}
 use Rattle.log.proofs.Lent.{lent-same, lent-back}
 use Rattle.log.proofs.Units.{openKind, openAt, At, Inv, InvAt, none-open, at-set}
 
@@ -162,7 +162,7 @@ module _ (w : World) (l : List Entry) (i : Inv w l) (address : ℕ) (r : Telegra
             rw (k, ea, inputs-after)
             (at-set _ (answered next (w .unit .state)) (w .unit .peripherals) (inputsOf event (carried r payload) p pool) (λ s. slotLog s l) x _ (got r payload event) (omega (arith, below, i .valid .table))
             (rw (closed x next (w .unit .state), image-here) (replies (seen x there) asked-here r payload pool (lend nd (w .pools .diags)))) s
-            (λ d. rw (closed s next (w .unit .state), image-there s u d) (passed (seen s u))));
+            (λ d. rw (closed s next (w .unit .state), image-there s u d) (rests (seen s u))));
       }
 
   pub inv-reply : (n : ℕ) → let o = replyStep true n (replyAt r (w .unit) payload (lend ni (w .pools .inputs)) (lend nd (w .pools .diags))) r payload ni nd w in

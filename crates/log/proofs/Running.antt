@@ -19,8 +19,8 @@ use Rattle.log.specs.Notes.{Note, isError}
 use Rattle.log.specs.Words.{denies, fall, notEnabled}
 use Rattle.log.specs.Slots.{exchangedBy, Running, RunningTold}
 use Rattle.log.proofs.Wording.{and-l, and-r, and-i, or-e, or-l, or-r}
-use Rattle.station.proofs.Rows.{found, unfound, parameters, no-parameters, configuration, no-configuration, bad-parameters, bad-config, wants-parameters, not-ready, configured, unvalidated, diagnosed, undiagnosed, diagnosed-late, undiagnosed-late, exchanged, unused, denied}
-use Rattle.log.proofs.Lives.{Slot, RowOf, Lives, joins, moves, wishes, sends, drops, skips, passed, answers, last-asked}
+use Rattle.station.proofs.Rows.{comes-online, stays-offline, param-confirmed, param-unconfirmed, config-confirmed, config-unconfirmed, param-error, config-error, param-wanted, not-ready, is-configured, unvalidated, diagnosed, undiagnosed, diagnosed-late, undiagnosed-late, data-stored, data-unused, data-denied}
+use Rattle.log.proofs.Lives.{Slot, RowOf, Lives, joins, moves, wishes, sends, drops, skips, rests, gets, last-asked}
 use Rattle.log.proofs.Stations.{told}
 use Rattle.log.proofs.Promised.{lives-run}
 
@@ -35,25 +35,25 @@ runs (x ∷ l) = exchangedBy (x ∷ l) || (not (fall (x ∷ l)) && (not (notEnab
 running-row : (s : Station) (t : Telegram) (payload : List ℕ) (n : ℕ) {k : Request} {h : Heard} → RowOf s t payload n k h
     → isRunning (h .station) ≡ (isExchanged (h .event) || (not (isError (h .event)) && (not (denies (some k) (s .«diag_needed») t) && isRunning s)))
 unfolding tookOf
-running-row s t payload n (found x e) = rw x refl
-running-row s t payload n (unfound x e) = refl
-running-row s t payload n (parameters x e) = rw x refl
-running-row s t payload n (no-parameters x e) = refl
-running-row s t payload n (configuration x e) = rw x refl
-running-row s t payload n (no-configuration x e) = refl
-running-row s t payload n (bad-parameters x e a) = refl
-running-row s t payload n (bad-config x e a b) = refl
-running-row s t payload n (wants-parameters x e a b c) = rw x refl
+running-row s t payload n (comes-online x e) = rw x refl
+running-row s t payload n (stays-offline x e) = refl
+running-row s t payload n (param-confirmed x e) = rw x refl
+running-row s t payload n (param-unconfirmed x e) = refl
+running-row s t payload n (config-confirmed x e) = rw x refl
+running-row s t payload n (config-unconfirmed x e) = refl
+running-row s t payload n (param-error x e a) = refl
+running-row s t payload n (config-error x e a b) = refl
+running-row s t payload n (param-wanted x e a b c) = rw x refl
 running-row s t payload n (not-ready x e a b c d) = refl
-running-row s t payload n (configured x e a b c d) = rw x refl
+running-row s t payload n (is-configured x e a b c d) = rw x refl
 running-row s t payload n (unvalidated x e) = refl
 running-row s t payload n (diagnosed x d e) = refl
 running-row s t payload n (undiagnosed x d e) = refl
 running-row s t payload n (diagnosed-late x d e) = rw d refl
 running-row s t payload n (undiagnosed-late x d e) = rw d refl
-running-row s t payload n (exchanged j x d e f) = refl
-running-row s t payload n (unused j x d e f) = rw (d, e) refl
-running-row s t payload n (denied x d e f) = rw (d, e) refl
+running-row s t payload n (data-stored j x d e f) = refl
+running-row s t payload n (data-unused j x d e f) = rw (d, e) refl
+running-row s t payload n (data-denied x d e f) = rw (d, e) refl
 
 pub running : {limit : ℕ} {x : Slot} {l : List Note} → Lives limit x l → isRunning (x .balance .station) ≡ runs l
 running (joins a user config used l) = refl
@@ -62,8 +62,8 @@ running (wishes v) = running v
 running (sends v e) = running v
 running (drops v e) = refl
 running (skips v e) = running v
-running (passed v) = running v
-running (answers {x = x} {t = t} {payload = payload} v o n r) = rw (last-asked v o, ← told v .due-is, ← running v) (running-row (x .balance .station) t payload n r)
+running (rests v) = running v
+running (gets {x = x} {t = t} {payload = payload} v o n r) = rw (last-asked v o, ← told v .due-is, ← running v) (running-row (x .balance .station) t payload n r)
 
 -- ---- by positions
 

@@ -12,7 +12,7 @@ use Rattle.log.proofs.Lives.{Slot, SlotFact, always}
 use Rattle.log.proofs.Units.{slotAt}
 use Rattle.log.proofs.Promised.{lives-run}
 
-pub holds : (P : ℕ → Slot → List Note → Type 0) → ((limit : ℕ) → SlotFact limit (P limit))
+pub fact-holds : (P : ℕ → Slot → List Note → Type 0) → ((limit : ℕ) → SlotFact limit (P limit))
     → (u : Parameters) (pools : Pools) (cs : List Call) (s : ℕ) → T (occupiedIn (run u pools cs .log) s) → let w = run u pools cs .world in
     P (w .unit .parameters .«max_retry_limit») (slotAt w s) (slotLog s (run u pools cs .log))
-holds P f u pools cs s h = always (f _) (lives-run u pools cs s h)
+fact-holds P f u pools cs s h = always (f _) (lives-run u pools cs s h)

@@ -23,8 +23,8 @@ use Rattle.station.proofs.Visits.{falls, asksData, wish-falls, wish-data}
 use Rattle.log.specs.Notes.{Note, isError, isDiagnosed}
 use Rattle.log.specs.Words.{confirms, denies, warns, cleans, dueOf, imageOf}
 use Rattle.log.proofs.Wording.{is-true, and-l, and-r, hasParam, hasConfig, ready}
-use Rattle.station.proofs.Rows.{exchanging, found, unfound, parameters, no-parameters, configuration, no-configuration, bad-parameters, bad-config, wants-parameters, not-ready, configured, unvalidated, diagnosed, undiagnosed, diagnosed-late, undiagnosed-late, exchanged, unused, denied}
-use Rattle.log.proofs.Lives.{Slot, RowOf, Lives, joins, moves, wishes, sends, drops, skips, passed, answers, last-asked}
+use Rattle.station.proofs.Rows.{exchanging, comes-online, stays-offline, param-confirmed, param-unconfirmed, config-confirmed, config-unconfirmed, param-error, config-error, param-wanted, not-ready, is-configured, unvalidated, diagnosed, undiagnosed, diagnosed-late, undiagnosed-late, data-stored, data-unused, data-denied}
+use Rattle.log.proofs.Lives.{Slot, RowOf, Lives, joins, moves, wishes, sends, drops, skips, rests, gets, last-asked}
 
 -- ---- what is said
 
@@ -135,25 +135,25 @@ module _ (s : Station) (t : Telegram) (payload : List ℕ) (hp hc rd : Bool) (h 
   -- one line a row
   kept : (n : ℕ) {k : Request} {g : Heard} → RowOf s t payload n k g → KeptBy g (some k) t payload hp hc rd (s .«diag_needed»)
   unfolding tookOf
-  kept n (found x e) = record { due-ok = refl; phase-ok = not-at-all hc rd _ (rw x at h) }
-  kept n (unfound x e) = record { due-ok = refl; phase-ok = rw e same }
-  kept n (parameters x e) = record { due-ok = refl; phase-ok = rw e (not-yet hc rd (rw x at h)) }
-  kept n (no-parameters x e) = record { due-ok = refl; phase-ok = rw e same }
-  kept n (configuration x e) = record { due-ok = refl; phase-ok = rw e (by-config hp hc rd (rw x at h)) }
-  kept n (no-configuration x e) = record { due-ok = refl; phase-ok = rw e same }
-  kept n (bad-parameters x e a) = record { due-ok = refl; phase-ok = tt }
-  kept n (bad-config x e a b) = record { due-ok = refl; phase-ok = tt }
-  kept n (wants-parameters x e a b c) = record { due-ok = refl; phase-ok = rw (e, a, b, c) (not-yet hc rd (and-r hc (not rd) (rw x at h))) }
+  kept n (comes-online x e) = record { due-ok = refl; phase-ok = not-at-all hc rd _ (rw x at h) }
+  kept n (stays-offline x e) = record { due-ok = refl; phase-ok = rw e same }
+  kept n (param-confirmed x e) = record { due-ok = refl; phase-ok = rw e (not-yet hc rd (rw x at h)) }
+  kept n (param-unconfirmed x e) = record { due-ok = refl; phase-ok = rw e same }
+  kept n (config-confirmed x e) = record { due-ok = refl; phase-ok = rw e (by-config hp hc rd (rw x at h)) }
+  kept n (config-unconfirmed x e) = record { due-ok = refl; phase-ok = rw e same }
+  kept n (param-error x e a) = record { due-ok = refl; phase-ok = tt }
+  kept n (config-error x e a b) = record { due-ok = refl; phase-ok = tt }
+  kept n (param-wanted x e a b c) = record { due-ok = refl; phase-ok = rw (e, a, b, c) (not-yet hc rd (and-r hc (not rd) (rw x at h))) }
   kept n (not-ready x e a b c d) = record { due-ok = refl; phase-ok = rw (e, a, b, c, d) same }
-  kept n (configured x e a b c d) = record { due-ok = refl; phase-ok = rw (e, a, b, c, d) (by-clean hp hc rd (rw x at h)) }
+  kept n (is-configured x e a b c d) = record { due-ok = refl; phase-ok = rw (e, a, b, c, d) (by-clean hp hc rd (rw x at h)) }
   kept n (unvalidated x e) = record { due-ok = refl; phase-ok = rw e same }
   kept n (diagnosed x d e) = let r = settled x in record { due-ok = refl; phase-ok = rw (r .0, r .1) (rw (r .0, r .1) at h) }
   kept n (undiagnosed x d e) = record { due-ok = refl; phase-ok = rw e same }
   kept n (diagnosed-late x d e) = record { due-ok = refl; phase-ok = rw d same }
   kept n (undiagnosed-late x d e) = record { due-ok = rw d refl; phase-ok = rw d same }
-  kept n (exchanged j x d e f) = let r = settled x in record { due-ok = rw (d, f) refl; phase-ok = rw (d, e, r .0, r .1) tt }
-  kept n (unused j x d e f) = record { due-ok = rw (d, f) refl; phase-ok = rw (d, e) same }
-  kept n (denied x d e f) = let r = settled x in record { due-ok = rw (d, f) refl; phase-ok = rw (d, e, r .0) tt }
+  kept n (data-stored j x d e f) = let r = settled x in record { due-ok = rw (d, f) refl; phase-ok = rw (d, e, r .0, r .1) tt }
+  kept n (data-unused j x d e f) = record { due-ok = rw (d, f) refl; phase-ok = rw (d, e) same }
+  kept n (data-denied x d e f) = let r = settled x in record { due-ok = rw (d, f) refl; phase-ok = rw (d, e, r .0) tt }
 
 -- ---- the facts of slots that the promises need
 
@@ -164,17 +164,17 @@ told (wishes {x = x} {l = l} v) = record { due-is = refl; in-phase = same-words 
 told (sends {x = x} {l = l} v e) = record { due-is = told v .due-is; in-phase = same-words (stateOf (x .balance .station .state)) (hasParam l) (hasConfig l) (ready l) (told v .in-phase) }
 told (drops v e) = record { due-is = told v .due-is; in-phase = tt }
 told (skips v e) = record { due-is = told v .due-is; in-phase = told v .in-phase }
-told (passed v) = told v
-told (answers {x = x} {l = l} {t = t} {payload = payload} v o n r) =
+told (rests v) = told v
+told (gets {x = x} {l = l} {t = t} {payload = payload} v o n r) =
     let y = kept (x .balance .station) t payload (hasParam l) (hasConfig l) (ready l) (told v .in-phase) n r in
     record { due-is = rw (last-asked v o, ← told v .due-is) (y .due-ok); in-phase = rw (last-asked v o, ← told v .due-is) (y .phase-ok) }
 
-pub image : {limit : ℕ} {x : Slot} {l : List Note} → Lives limit x l → x .image ≡ imageOf l
-image (joins a user config used l) = refl
-image (moves v a) = image v
-image (wishes v) = image v
-image (sends v e) = image v
-image (drops v e) = image v
-image (skips v e) = image v
-image (passed v) = image v
-image (answers {t = t} {payload = payload} {h = h} v o n r) = ap (λ (im : List ℕ). cond (isExchanged (h .event)) (carried t payload) im) (image v)
+pub image-is : {limit : ℕ} {x : Slot} {l : List Note} → Lives limit x l → x .image ≡ imageOf l
+image-is (joins a user config used l) = refl
+image-is (moves v a) = image-is v
+image-is (wishes v) = image-is v
+image-is (sends v e) = image-is v
+image-is (drops v e) = image-is v
+image-is (skips v e) = image-is v
+image-is (rests v) = image-is v
+image-is (gets {t = t} {payload = payload} {h = h} v o n r) = ap (λ (im : List ℕ). cond (isExchanged (h .event)) (carried t payload) im) (image-is v)

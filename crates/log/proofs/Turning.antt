@@ -47,7 +47,7 @@ use Rattle.master.specs.Turn.{sweepFrom, stepAt, sweptBy, unitTurned, askedIn, 
 use Rattle.valid.specs.Valid.{Valid, balance, occupied}
 use Rattle.log.specs.Calls.{World, turn, turned, unitIs, step}
 use Rattle.log.proofs.Wording.{is-true, ready}
-use Rattle.log.proofs.Lives.{visitNote, kindOf, slotOf, Lives, lives-visited, passed}
+use Rattle.log.proofs.Lives.{visitNote, kindOf, slotOf, Lives, lives-visited, rests}
 use Rattle.log.proofs.Stations.{told, asked-when}
 use Rattle.log.proofs.Units.{openAt, At, inputsLent, none-open, Inv, InvAt}
 
@@ -145,7 +145,7 @@ note-is Skips l = refl
 lives-by : (limit : ℕ) (p q : Peripheral) (pool : List ℕ) (l : List Note) (k o : Option Request) (b : Bool) → q ≡ cond b (visitedBy limit p) p → o ≡ cond b (kindOf (wishesOf limit p)) none
     → Lives limit (slotOf k p (inputImage p pool)) l → Lives limit (slotOf o q (inputImage q pool)) (cond (b && falls (wishesOf limit p)) (wentOffline ∷ l) (noteKind (cond b (kindOf (wishesOf limit p)) none) l))
 lives-by limit p q pool l k o true e z i = rw (e, z, note-is (wishesOf limit p) l) (lives-visited i)
-lives-by limit p q pool l k o false e z i = rw (e, z) (passed i)
+lives-by limit p q pool l k o false e z i = rw (e, z) (rests i)
 
 -- a visit that sent
 sent-is : (v : Visited) (p : Peripheral) (k : Request) (b : Bool) → cond b (kindOf v) none ≡ some k → cond b (stationIs (visitedOf v (p .station)) p) p ≡ stationIs (visitedOf (Sends k) (p .station)) p

@@ -65,8 +65,8 @@ pub record Saying : Type 0 where
   pub notes : (s : ℕ) (t : Option ℕ) → List Note → List Note
   pub frame : (t : Option ℕ) → Frame → Frame
 
-abbrev pub silent : Saying
-silent = record { asks = λ o. o; notes = λ s t l. l; frame = λ t f. f }
+abbrev pub saysNothing : Saying
+saysNothing = record { asks = λ o. o; notes = λ s t l. l; frame = λ t f. f }
 
 -- a note of one slot, and nothing else
 abbrev pub oneNote : ℕ → Note → Saying
@@ -95,8 +95,8 @@ says (reply address r payload ni nd) x =
     }
 says (reset h address) x = oneNote (h .slot) readdressed
 says (wish h) x = oneNote (h .slot) wished
-says (write h bytes nq) x = silent
-says (hand h bytes nq) x = silent
+says (write h bytes nq) x = saysNothing
+says (hand h bytes nq) x = saysNothing
 
 -- the slot that the newest turn of the log asked: the next accepted reply is from there
 abbrev pub target : List Entry → Option ℕ

@@ -42,11 +42,14 @@ eventOf x = reportOf x .event
 abbrev pub slotGiven : Answer → ℕ
 slotGiven x = reportOf x .slot
 
--- the slot that a turn asked
+-- f of the slot that a turn asked and of the request, else d
+abbrev pub ofRequest : {B : Type 0} → B → (ℕ → Request → B) → Transmission → B
+ofRequest d f Nothing = d
+ofRequest d f (Control header) = d
+ofRequest d f (Asks slot k header) = f slot k
+
 abbrev pub slotAsked : Transmission → Option ℕ
-slotAsked Nothing = none
-slotAsked (Control header) = none
-slotAsked (Asks slot k header) = some slot
+slotAsked x = ofRequest none (λ slot k. some slot) x
 
 -- ---- events
 
@@ -143,6 +146,4 @@ noteAt s none x l = l
 noteAt s (some t) x l = noteIf (eqb s t) x l
 
 abbrev pub noteAsked : ℕ → Transmission → List Note → List Note
-noteAsked s Nothing l = l
-noteAsked s (Control header) l = l
-noteAsked s (Asks t k header) l = noteIf (eqb s t) (asked k) l
+noteAsked s x l = ofRequest l (λ slot k. noteIf (eqb s slot) (asked k) l) x

@@ -16,8 +16,7 @@ use Rattle.payloads.specs.Request.{kindNumber}
 use Rattle.payloads.specs.Diagnosis.{taken, flag, diagnosisOf}
 use Rattle.station.specs.Reply.{isExchanged, isShort}
 use Rattle.answers.specs.declared.turn.Transmission.{Transmission}
-use Rattle.answers.specs.declared.turn.Transmission.the-variants.{Nothing, Control, Request as Asks}
-use Rattle.log.specs.Notes.{Note, wished, wentOffline, ofAdded, ofAsked, ofReply, isNote, fresh, isDiagnosed, isError}
+use Rattle.log.specs.Notes.{ofRequest, Note, wished, wentOffline, ofAdded, ofAsked, ofReply, isNote, fresh, isDiagnosed, isError}
 
 abbrev pub isKind : Request → Option Request → Bool
 isKind k none = false
@@ -140,6 +139,4 @@ pub record Ready (l : List Note) : Type 0 where
 
 -- asked for data by a turn
 abbrev pub asksData : ℕ → Transmission → Bool
-asksData s Nothing = false
-asksData s (Control header) = false
-asksData s (Asks t k header) = eqb s t && isKind Data (some k)
+asksData s x = ofRequest false (λ slot k. eqb s slot && isKind Data (some k)) x

@@ -42,31 +42,31 @@ coded n RequestTelegram = false
 -- ---- the rows
 
 -- s: the station before; took: the reply is taken as a diagnosis, q is the station then; three, ten: its status; then the request that is answered, and what is heard
-pub data Row (s q : Station) (t : Telegram) (took three ten : Bool) : Request → Heard → Type 0 where
+pub data ReplyRow (s q : Station) (t : Telegram) (took three ten : Bool) : Request → Heard → Type 0 where
   -- Offline
-  found : stateOf (s .state) ≡ Offline → took ≡ true → Row s q t took three ten Diagnosis (hears Online (inState WaitForParam (counting 0 q)))
-  unfound : stateOf (s .state) ≡ Offline → took ≡ false → Row s q t took three ten Diagnosis (hears NoEvent s)
+  comes-online : stateOf (s .state) ≡ Offline → took ≡ true → ReplyRow s q t took three ten Diagnosis (hears Online (inState WaitForParam (counting 0 q)))
+  stays-offline : stateOf (s .state) ≡ Offline → took ≡ false → ReplyRow s q t took three ten Diagnosis (hears NoEvent s)
   -- WaitForParam, WaitForConfig
-  parameters : stateOf (s .state) ≡ WaitForParam → isShort t ≡ true → Row s q t took three ten Parameters (hears NoEvent (inState WaitForConfig (counting 0 (cycling s))))
-  no-parameters : stateOf (s .state) ≡ WaitForParam → isShort t ≡ false → Row s q t took three ten Parameters (hears NoEvent s)
-  configuration : stateOf (s .state) ≡ WaitForConfig → isShort t ≡ true → Row s q t took three ten Configuration (hears NoEvent (inState ValidateConfig (counting 0 (cycling s))))
-  no-configuration : stateOf (s .state) ≡ WaitForConfig → isShort t ≡ false → Row s q t took three ten Configuration (hears NoEvent s)
+  param-confirmed : stateOf (s .state) ≡ WaitForParam → isShort t ≡ true → ReplyRow s q t took three ten Parameters (hears NoEvent (inState WaitForConfig (counting 0 (cycling s))))
+  param-unconfirmed : stateOf (s .state) ≡ WaitForParam → isShort t ≡ false → ReplyRow s q t took three ten Parameters (hears NoEvent s)
+  config-confirmed : stateOf (s .state) ≡ WaitForConfig → isShort t ≡ true → ReplyRow s q t took three ten Configuration (hears NoEvent (inState ValidateConfig (counting 0 (cycling s))))
+  config-unconfirmed : stateOf (s .state) ≡ WaitForConfig → isShort t ≡ false → ReplyRow s q t took three ten Configuration (hears NoEvent s)
   -- ValidateConfig
-  bad-parameters : stateOf (s .state) ≡ ValidateConfig → took ≡ true → flag 0x0040 (q .diag .flags) ≡ true → Row s q t took three ten Diagnosis (hears ParameterError (inState Offline (counting 0 q)))
-  bad-config : stateOf (s .state) ≡ ValidateConfig → took ≡ true → flag 0x0040 (q .diag .flags) ≡ false → flag 0x0004 (q .diag .flags) ≡ true → Row s q t took three ten Diagnosis (hears ConfigError (inState Offline (counting 0 q)))
-  wants-parameters : stateOf (s .state) ≡ ValidateConfig → took ≡ true → flag 0x0040 (q .diag .flags) ≡ false → flag 0x0004 (q .diag .flags) ≡ false → flag 0x0100 (q .diag .flags) ≡ true → Row s q t took three ten Diagnosis (hears NoEvent (inState WaitForParam (counting 0 q)))
-  not-ready : stateOf (s .state) ≡ ValidateConfig → took ≡ true → flag 0x0040 (q .diag .flags) ≡ false → flag 0x0004 (q .diag .flags) ≡ false → flag 0x0100 (q .diag .flags) ≡ false → flag 0x0002 (q .diag .flags) ≡ true → Row s q t took three ten Diagnosis (hears NoEvent (counting 0 q))
-  configured : stateOf (s .state) ≡ ValidateConfig → took ≡ true → flag 0x0040 (q .diag .flags) ≡ false → flag 0x0004 (q .diag .flags) ≡ false → flag 0x0100 (q .diag .flags) ≡ false → flag 0x0002 (q .diag .flags) ≡ false → Row s q t took three ten Diagnosis (hears Configured (inState PreDataExchange (counting 0 q)))
-  unvalidated : stateOf (s .state) ≡ ValidateConfig → took ≡ false → Row s q t took three ten Diagnosis (hears NoEvent (counting 0 s))
+  param-error : stateOf (s .state) ≡ ValidateConfig → took ≡ true → flag 0x0040 (q .diag .flags) ≡ true → ReplyRow s q t took three ten Diagnosis (hears ParameterError (inState Offline (counting 0 q)))
+  config-error : stateOf (s .state) ≡ ValidateConfig → took ≡ true → flag 0x0040 (q .diag .flags) ≡ false → flag 0x0004 (q .diag .flags) ≡ true → ReplyRow s q t took three ten Diagnosis (hears ConfigError (inState Offline (counting 0 q)))
+  param-wanted : stateOf (s .state) ≡ ValidateConfig → took ≡ true → flag 0x0040 (q .diag .flags) ≡ false → flag 0x0004 (q .diag .flags) ≡ false → flag 0x0100 (q .diag .flags) ≡ true → ReplyRow s q t took three ten Diagnosis (hears NoEvent (inState WaitForParam (counting 0 q)))
+  not-ready : stateOf (s .state) ≡ ValidateConfig → took ≡ true → flag 0x0040 (q .diag .flags) ≡ false → flag 0x0004 (q .diag .flags) ≡ false → flag 0x0100 (q .diag .flags) ≡ false → flag 0x0002 (q .diag .flags) ≡ true → ReplyRow s q t took three ten Diagnosis (hears NoEvent (counting 0 q))
+  is-configured : stateOf (s .state) ≡ ValidateConfig → took ≡ true → flag 0x0040 (q .diag .flags) ≡ false → flag 0x0004 (q .diag .flags) ≡ false → flag 0x0100 (q .diag .flags) ≡ false → flag 0x0002 (q .diag .flags) ≡ false → ReplyRow s q t took three ten Diagnosis (hears Configured (inState PreDataExchange (counting 0 q)))
+  unvalidated : stateOf (s .state) ≡ ValidateConfig → took ≡ false → ReplyRow s q t took three ten Diagnosis (hears NoEvent (counting 0 s))
   -- PreDataExchange, DataExchange: with a diagnosis due, which may have been wished for since data was asked
-  diagnosed : exchanging (stateOf (s .state)) ≡ true → s .«diag_needed» ≡ true → took ≡ true → Row s q t took three ten Diagnosis (hears Diagnostics (counting 0 (dueIs false q)))
-  undiagnosed : exchanging (stateOf (s .state)) ≡ true → s .«diag_needed» ≡ true → took ≡ false → Row s q t took three ten Diagnosis (hears NoEvent s)
-  diagnosed-late : exchanging (stateOf (s .state)) ≡ true → s .«diag_needed» ≡ true → took ≡ true → Row s q t took three ten Data (hears Diagnostics (counting 0 (dueIs false q)))
-  undiagnosed-late : exchanging (stateOf (s .state)) ≡ true → s .«diag_needed» ≡ true → took ≡ false → Row s q t took three ten Data (hears NoEvent s)
+  diagnosed : exchanging (stateOf (s .state)) ≡ true → s .«diag_needed» ≡ true → took ≡ true → ReplyRow s q t took three ten Diagnosis (hears Diagnostics (counting 0 (dueIs false q)))
+  undiagnosed : exchanging (stateOf (s .state)) ≡ true → s .«diag_needed» ≡ true → took ≡ false → ReplyRow s q t took three ten Diagnosis (hears NoEvent s)
+  diagnosed-late : exchanging (stateOf (s .state)) ≡ true → s .«diag_needed» ≡ true → took ≡ true → ReplyRow s q t took three ten Data (hears Diagnostics (counting 0 (dueIs false q)))
+  undiagnosed-late : exchanging (stateOf (s .state)) ≡ true → s .«diag_needed» ≡ true → took ≡ false → ReplyRow s q t took three ten Data (hears NoEvent s)
   -- PreDataExchange, DataExchange: else; j: status 10
-  exchanged : (j : Bool) → exchanging (stateOf (s .state)) ≡ true → s .«diag_needed» ≡ false → three ≡ false → ten ≡ j → Row s q t took three ten Data (hears DataExchanged (inState DataExchange (dueIs (j || s .«diag_needed») (counting 0 (cycling s)))))
-  unused : (j : Bool) → exchanging (stateOf (s .state)) ≡ true → s .«diag_needed» ≡ false → three ≡ false → ten ≡ j → Row s q t took three ten Data (hears NoEvent (dueIs (j || s .«diag_needed») (counting 0 (cycling s))))
-  denied : exchanging (stateOf (s .state)) ≡ true → s .«diag_needed» ≡ false → three ≡ true → ten ≡ false → Row s q t took three ten Data (hears NoEvent (inState ValidateConfig (counting 0 (cycling s))))
+  data-stored : (j : Bool) → exchanging (stateOf (s .state)) ≡ true → s .«diag_needed» ≡ false → three ≡ false → ten ≡ j → ReplyRow s q t took three ten Data (hears DataExchanged (inState DataExchange (dueIs (j || s .«diag_needed») (counting 0 (cycling s)))))
+  data-unused : (j : Bool) → exchanging (stateOf (s .state)) ≡ true → s .«diag_needed» ≡ false → three ≡ false → ten ≡ j → ReplyRow s q t took three ten Data (hears NoEvent (dueIs (j || s .«diag_needed») (counting 0 (cycling s))))
+  data-denied : exchanging (stateOf (s .state)) ≡ true → s .«diag_needed» ≡ false → three ≡ true → ten ≡ false → ReplyRow s q t took three ten Data (hears NoEvent (inState ValidateConfig (counting 0 (cycling s))))
 
 -- ---- status 3 and status 10 by their numbers
 
@@ -103,28 +103,28 @@ ten-is n = by-test (eqb n 10) (λ e. let q : n ≡ 10 = eqb-true n 10 e in rw q 
 module _ (s q : Station) (t : Telegram) (took empty fits : Bool) where
   -- a row of this reply
   abbrev Here : Request → Heard → Type 0
-  Here k h = Row s q t took (coded 3 t) (coded 10 t) k h
+  Here k h = ReplyRow s q t took (coded 3 t) (coded 10 t) k h
 
   found-row : (b : Bool) → took ≡ b → stateOf (s .state) ≡ Offline → Here Diagnosis (foundOf b q s)
-  found-row true e x = found x e
-  found-row false e x = unfound x e
+  found-row true e x = comes-online x e
+  found-row false e x = stays-offline x e
 
   to-config-row : (b : Bool) → isShort t ≡ b → stateOf (s .state) ≡ WaitForParam → Here Parameters (acknowledgedOf b WaitForConfig s)
-  to-config-row true e x = parameters x e
-  to-config-row false e x = no-parameters x e
+  to-config-row true e x = param-confirmed x e
+  to-config-row false e x = param-unconfirmed x e
 
   to-validate-row : (b : Bool) → isShort t ≡ b → stateOf (s .state) ≡ WaitForConfig → Here Configuration (acknowledgedOf b ValidateConfig s)
-  to-validate-row true e x = configuration x e
-  to-validate-row false e x = no-configuration x e
+  to-validate-row true e x = config-confirmed x e
+  to-validate-row false e x = config-unconfirmed x e
 
   module _ (x : stateOf (s .state) ≡ ValidateConfig) where
     flags-row : took ≡ true → (a b c d : Bool) → flag 0x0040 (q .diag .flags) ≡ a → flag 0x0004 (q .diag .flags) ≡ b → flag 0x0100 (q .diag .flags) ≡ c → flag 0x0002 (q .diag .flags) ≡ d → let p = counting 0 q in
         Here Diagnosis (cond a (hears ParameterError (inState Offline p)) (cond b (hears ConfigError (inState Offline p)) (cond c (hears NoEvent (inState WaitForParam p)) (cond d (hears NoEvent p) (hears Configured (inState PreDataExchange p))))))
-    flags-row e true b c d ea eb ec ed = bad-parameters x e ea
-    flags-row e false true c d ea eb ec ed = bad-config x e ea eb
-    flags-row e false false true d ea eb ec ed = wants-parameters x e ea eb ec
+    flags-row e true b c d ea eb ec ed = param-error x e ea
+    flags-row e false true c d ea eb ec ed = config-error x e ea eb
+    flags-row e false false true d ea eb ec ed = param-wanted x e ea eb ec
     flags-row e false false false true ea eb ec ed = not-ready x e ea eb ec ed
-    flags-row e false false false false ea eb ec ed = configured x e ea eb ec ed
+    flags-row e false false false false ea eb ec ed = is-configured x e ea eb ec ed
 
     validated-row : (b : Bool) → took ≡ b → Here Diagnosis (validatedOf b q s)
     unfolding byFlags
@@ -141,22 +141,22 @@ module _ (s q : Station) (t : Telegram) (took empty fits : Bool) where
     late-row false d e = undiagnosed-late x d e
 
     exchanged-row : (b j : Bool) → s .«diag_needed» ≡ false → coded 3 t ≡ false → coded 10 t ≡ j → Here Data (exchangedOf b (dueIs (j || s .«diag_needed») (counting 0 (cycling s))))
-    exchanged-row true j d e f = exchanged j x d e f
-    exchanged-row false j d e f = unused j x d e f
+    exchanged-row true j d e f = data-stored j x d e f
+    exchanged-row false j d e f = data-unused j x d e f
 
     status-row : (c : ResponseStatus) → s .«diag_needed» ≡ false → coded 3 t ≡ notEnabled c → coded 10 t ≡ dueStatus c → Here Data (statusReply c fits (counting 0 (cycling s)))
     status-row Ok d e f = exchanged-row fits false d e f
-    status-row SapNotEnabled d e f = denied x d e f
+    status-row SapNotEnabled d e f = data-denied x d e f
     status-row DataLow d e f = exchanged-row fits false d e f
     status-row DataHigh d e f = exchanged-row fits true d e f
-    status-row Other d e f = unused false x d e f
-    status-row Unusable d e f = unused false x d e f
+    status-row Other d e f = data-unused false x d e f
+    status-row Unusable d e f = data-unused false x d e f
 
     read-row : (u : Telegram) → t ≡ u → s .«diag_needed» ≡ false → Here Data (dataReply u empty fits (counting 0 (cycling s)))
     read-row ShortConfirmation e d = exchanged-row empty false d (rw e refl) (rw e refl)
     read-row (DataReply dsap ssap c) e d = status-row (statusOf c) d (rw e (sym (three-is c))) (rw e (sym (ten-is c)))
-    read-row Token e d = unused false x d (rw e refl) (rw e refl)
-    read-row RequestTelegram e d = unused false x d (rw e refl) (rw e refl)
+    read-row Token e d = data-unused false x d (rw e refl) (rw e refl)
+    read-row RequestTelegram e d = data-unused false x d (rw e refl) (rw e refl)
 
     exchange-row : (d : Bool) → s .«diag_needed» ≡ d → Here Data (exchangeOf d t took q empty fits s)
     exchange-row true d = late-row took d refl

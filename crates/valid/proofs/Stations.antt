@@ -25,7 +25,7 @@ use Rattle.station.specs.Record.{newStation, inState, counting, cycling, dueIs,
 use Rattle.station.specs.Visit.{wishIn, wishOf, visitedOf}
 use Rattle.station.specs.Reply.{heardOf}
 use Rattle.station.proofs.Visits.{falls, wish-falls}
-use Rattle.station.proofs.Rows.{Row, found, unfound, parameters, no-parameters, configuration, no-configuration, bad-parameters, bad-config, wants-parameters, not-ready, configured, unvalidated, diagnosed, undiagnosed, diagnosed-late, undiagnosed-late, exchanged, unused, denied, diagnosis-row, parameters-row, configuration-row, data-row}
+use Rattle.station.proofs.Rows.{ReplyRow, comes-online, stays-offline, param-confirmed, param-unconfirmed, config-confirmed, config-unconfirmed, param-error, config-error, param-wanted, not-ready, is-configured, unvalidated, diagnosed, undiagnosed, diagnosed-late, undiagnosed-late, data-stored, data-unused, data-denied, diagnosis-row, parameters-row, configuration-row, data-row}
 use Rattle.valid.specs.Valid.{Sound, fits}
 
 -- ---- the numbers
@@ -169,26 +169,26 @@ module _ (P : Station → Type 0) (c : Steady P) (q s : Station) (gq : P q) (g :
   counted : P (counting 0 (cycling s))
   counted = c .zero-ok (cycling s) (c .cycling-ok s g)
 
-  row-keeps : {t : Telegram} {took three ten : Bool} {k : Request} {h : Heard} → Row s q t took three ten k h → P (h .station)
-  row-keeps (found x e) = wants
-  row-keeps (unfound x e) = g
-  row-keeps (parameters x e) = c .at-ok WaitForConfig (counting 0 (cycling s)) counted
-  row-keeps (no-parameters x e) = g
-  row-keeps (configuration x e) = c .at-ok ValidateConfig (counting 0 (cycling s)) counted
-  row-keeps (no-configuration x e) = g
-  row-keeps (bad-parameters x e a) = offline
-  row-keeps (bad-config x e a b) = offline
-  row-keeps (wants-parameters x e a b d) = wants
+  row-keeps : {t : Telegram} {took three ten : Bool} {k : Request} {h : Heard} → ReplyRow s q t took three ten k h → P (h .station)
+  row-keeps (comes-online x e) = wants
+  row-keeps (stays-offline x e) = g
+  row-keeps (param-confirmed x e) = c .at-ok WaitForConfig (counting 0 (cycling s)) counted
+  row-keeps (param-unconfirmed x e) = g
+  row-keeps (config-confirmed x e) = c .at-ok ValidateConfig (counting 0 (cycling s)) counted
+  row-keeps (config-unconfirmed x e) = g
+  row-keeps (param-error x e a) = offline
+  row-keeps (config-error x e a b) = offline
+  row-keeps (param-wanted x e a b d) = wants
   row-keeps (not-ready x e a b d f) = c .zero-ok q gq
-  row-keeps (configured x e a b d f) = c .at-ok PreDataExchange (counting 0 q) (c .zero-ok q gq)
+  row-keeps (is-configured x e a b d f) = c .at-ok PreDataExchange (counting 0 q) (c .zero-ok q gq)
   row-keeps (unvalidated x e) = c .zero-ok s g
   row-keeps (diagnosed x d e) = c .zero-ok (dueIs false q) (c .due-ok false q gq)
   row-keeps (undiagnosed x d e) = g
   row-keeps (diagnosed-late x d e) = c .zero-ok (dueIs false q) (c .due-ok false q gq)
   row-keeps (undiagnosed-late x d e) = g
-  row-keeps (exchanged j x d e f) = c .at-ok DataExchange (dueIs (j || s .«diag_needed») (counting 0 (cycling s))) (c .due-ok (j || s .«diag_needed») (counting 0 (cycling s)) counted)
-  row-keeps (unused j x d e f) = c .due-ok (j || s .«diag_needed») (counting 0 (cycling s)) counted
-  row-keeps (denied x d e f) = c .at-ok ValidateConfig (counting 0 (cycling s)) counted
+  row-keeps (data-stored j x d e f) = c .at-ok DataExchange (dueIs (j || s .«diag_needed») (counting 0 (cycling s))) (c .due-ok (j || s .«diag_needed») (counting 0 (cycling s)) counted)
+  row-keeps (data-unused j x d e f) = c .due-ok (j || s .«diag_needed») (counting 0 (cycling s)) counted
+  row-keeps (data-denied x d e f) = c .at-ok ValidateConfig (counting 0 (cycling s)) counted
 
   module _ (t : Telegram) (took empty fits : Bool) where
     -- whatever the state, some row is the reply's
