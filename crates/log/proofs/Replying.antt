@@ -37,7 +37,7 @@ use Rattle.log.specs.Entries.{Entry, target, Place, slotLog, placeNext, 
 use Rattle.log.specs.Promises.{frameIn}
 use Rattle.log.proofs.Lives.{rests, replies}
 use Rattle.log.proofs.Lent.{lent-same, lent-back}
-use Rattle.log.proofs.Units.{openKind, openAt, At, Inv, InvAt, none-open, at-set}
+use Rattle.log.proofs.Units.{openKind, openAt, LivesAt, Inv, InvAt, none-open, at-set}
 
 two : _≡_ {A = ℕ} 2 0 → ⊥
 two e = omega arith
@@ -133,7 +133,7 @@ module _ (w : World) (l : List Entry) (i : Inv w l) (address : ℕ) (r : Telegra
   unfolding p x
   image-there s o d = inputs-other event (carried r payload) p pool (balance (w .unit) s .ranges .inputs) (balance (w .unit) s .ranges .«input_len») (i .valid .apart s x o there d .inputs)
 
-  seen : (s : ℕ) → occupied (w .unit) s → At (w .unit .parameters .«max_retry_limit») (w .unit .state) (w .unit .peripherals) pool s (slotLog s l)
+  seen : (s : ℕ) → occupied (w .unit) s → LivesAt (w .unit .parameters .«max_retry_limit») (w .unit .state) (w .unit .peripherals) pool s (slotLog s l)
   unfolding pool
   seen s o = rw (lent-same ni (w .unit .parameters .«input_pool») (w .pools .inputs) pool-length) (i .lives s o)
 

@@ -49,7 +49,7 @@ use Rattle.log.specs.Calls.{World, turn, turned, unitIs, step}
 use Rattle.log.proofs.Wording.{is-true, ready}
 use Rattle.log.proofs.Lives.{visitNote, kindOf, slotOf, Lives, lives-visited, rests}
 use Rattle.log.proofs.Stations.{told, asked-when}
-use Rattle.log.proofs.Units.{openAt, At, inputsLent, none-open, Inv, InvAt}
+use Rattle.log.proofs.Units.{openAt, LivesAt, inputsLent, none-open, Inv, InvAt}
 
 -- ---- what an answer says of slot s
 
@@ -165,7 +165,7 @@ sent-open (To t Data) time st s = refl
 -- ---- the turn
 
 module _ (w : World) (l : List Entry) (i : Inv w l) where
-  pub swung : (step : Step) (s : ℕ) → occupied (w .unit) s → Swung (w .unit .parameters .«max_retry_limit») (startOf step (w .unit .state)) s (balance (w .unit) s) (sweptBy step (w .unit))
+  swung : (step : Step) (s : ℕ) → occupied (w .unit) s → Swung (w .unit .parameters .«max_retry_limit») (startOf step (w .unit .state)) s (balance (w .unit) s) (sweptBy step (w .unit))
   unfolding sweptBy
   swung step s o =
       let h = marked-below (w .unit) (i .valid) s o in
@@ -250,7 +250,7 @@ module _ (w : World) (l : List Entry) (i : Inv w l) where
               (place-turned (operatingOf (w .unit .state .operating)) (controlDue time high (w .unit .parameters .«slot_time») (w .unit .state)) (w .unit .state .completed) (x .seen .sent) (askedIn x) (w .unit .parameters) time (w .unit .state)));
           aimed = aimed-turn step (x .seen .sent) refl;
           lives = λ s u.
-              subst (At (w .unit .parameters .«max_retry_limit») (afterTurn step (x .seen .sent) time (w .unit .state)) (x .balances) (inputsLent w) s) (sym (notes-are step payload buf s u (slotLog s l)))
+              subst (LivesAt (w .unit .parameters .«max_retry_limit») (afterTurn step (x .seen .sent) time (w .unit .state)) (x .balances) (inputsLent w) s) (sym (notes-are step payload buf s u (slotLog s l)))
               (lives-by (w .unit .parameters .«max_retry_limit») (balance (w .unit) s) (getD (x .balances) s blank) (inputsLent w) (slotLog s l) (openAt (w .unit .state) s) _ (swung step s u .visited) (swung step s u .balance)
               (steps-open step time s ∙ swung step s u .kind) (i .lives s u));
         }

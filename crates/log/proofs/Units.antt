@@ -47,8 +47,8 @@ abbrev pub slotIn : DpMasterState → List Peripheral → List ℕ → ℕ → S
 slotIn st ps pool s = slotOf (openAt st s) (getD ps s blank) (inputImage (getD ps s blank) pool)
 
 -- slot s of a unit with this limit, state, balances and pool of inputs lives with these notes
-abbrev pub At : ℕ → DpMasterState → List Peripheral → List ℕ → ℕ → List Note → Type 0
-At limit st ps pool s n = Lives limit (slotIn st ps pool s) n
+abbrev pub LivesAt : ℕ → DpMasterState → List Peripheral → List ℕ → ℕ → List Note → Type 0
+LivesAt limit st ps pool s n = Lives limit (slotIn st ps pool s) n
 
 abbrev pub inputsLent : World → List ℕ
 inputsLent w = lend (w .unit .parameters .«input_pool») (w .pools .inputs)
@@ -81,7 +81,7 @@ not-open st s d = rw (ne-eqb s (st .«open_slot») d) refl
 -- ---- one slot is written and noted, the others are as they were
 
 pub at-set : (limit : ℕ) (st : DpMasterState) (ps : List Peripheral) (pool : List ℕ) (l : ℕ → List Note) (t : ℕ) (q : Peripheral) (x : Note) → t < length ps
-    → Lives limit (slotOf (openAt st t) q (inputImage q pool)) (x ∷ l t) → (s : ℕ) → ((s ≡ t → ⊥) → At limit st ps pool s (l s)) → At limit st (set ps t q) pool s (noteIf (eqb s t) x (l s))
+    → Lives limit (slotOf (openAt st t) q (inputImage q pool)) (x ∷ l t) → (s : ℕ) → ((s ≡ t → ⊥) → LivesAt limit st ps pool s (l s)) → LivesAt limit st (set ps t q) pool s (noteIf (eqb s t) x (l s))
 at-set limit st ps pool l t q x h own s other =
     by-test (eqb s t)
     (λ e. let z : s ≡ t = eqb-true s t e in rw (e, z, getD-set-same ps t q blank h) own)
