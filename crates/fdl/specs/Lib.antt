@@ -1,4 +1,4 @@
 pub mod Bits
 pub mod Sap
-pub mod Reply
+pub mod Status
 pub mod Params

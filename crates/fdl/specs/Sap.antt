@@ -1,12 +1,12 @@
--- Service access points: absent or a number, and the number of each one that the Rust names.
--- From 01, "One visit and one reply" (60, 61, 62, none) and "Global control is DSAP 58, SSAP 62"; the others are the standard's.
+-- Service access points: absent or a number, and the number of each one that the Rust names and the DP master uses.
+-- From 01, "One visit and one reply" (60, 61, 62, none) and "Global control is DSAP 58, SSAP 62".
 use mathlib.Core.Bool.{cond}
 use Prim.Native.Nat.{ℕ}
 use lib.Dec.{eqb}
 use Rattle.fdl.specs.declared.consts.Sap.{Sap}
 use Rattle.fdl.specs.declared.consts.Sap.the-variants.{Absent, At}
 use Rattle.fdl.specs.declared.consts.Service.{Service}
-use Rattle.fdl.specs.declared.consts.Service.the-variants.{MasterDataExchange, MasterMs2, MasterMs1, MasterMm, MasterMs0, SlaveDataExchange, SlaveSetAddress, SlaveReadInputs, SlaveReadOutputs, SlaveGlobalControl, SlaveGetCfg, SlaveDiagnosis, SlaveSetPrm, SlaveChkCfg}
+use Rattle.fdl.specs.declared.consts.Service.the-variants.{MasterDataExchange, MasterMs0, SlaveDataExchange, SlaveGlobalControl, SlaveDiagnosis, SlaveSetPrm, SlaveChkCfg}
 
 -- the number that stands for it: 255 is none
 abbrev pub sapNumber : Sap → ℕ
@@ -18,16 +18,9 @@ sapOf n = cond (eqb n 255) Absent (At n)
 
 abbrev pub serviceSap : Service → Sap
 serviceSap MasterDataExchange = Absent
-serviceSap MasterMs2 = At 50
-serviceSap MasterMs1 = At 51
-serviceSap MasterMm = At 54
 serviceSap MasterMs0 = At 62
 serviceSap SlaveDataExchange = Absent
-serviceSap SlaveSetAddress = At 55
-serviceSap SlaveReadInputs = At 56
-serviceSap SlaveReadOutputs = At 57
 serviceSap SlaveGlobalControl = At 58
-serviceSap SlaveGetCfg = At 59
 serviceSap SlaveDiagnosis = At 60
 serviceSap SlaveSetPrm = At 61
 serviceSap SlaveChkCfg = At 62

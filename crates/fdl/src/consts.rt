@@ -1,4 +1,4 @@
-// Service access points by name.
+// Service access points, by the names of the Rust for those that are used.
 ghost use mathlib.Core.Path.{_≡_};
 ghost use Rattle.fdl.specs.Sap.{sapNumber, sapOf, serviceSap};
 
@@ -9,16 +9,9 @@ pub enum Sap {
 
 pub enum Service {
     MasterDataExchange,
-    MasterMs2,
-    MasterMs1,
-    MasterMm,
     MasterMs0,
     SlaveDataExchange,
-    SlaveSetAddress,
-    SlaveReadInputs,
-    SlaveReadOutputs,
     SlaveGlobalControl,
-    SlaveGetCfg,
     SlaveDiagnosis,
     SlaveSetPrm,
     SlaveChkCfg,
@@ -51,16 +44,9 @@ impl Service {
     {
         match self {
             Service::MasterDataExchange => Sap::Absent,
-            Service::MasterMs2 => Sap::At(50),
-            Service::MasterMs1 => Sap::At(51),
-            Service::MasterMm => Sap::At(54),
             Service::MasterMs0 => Sap::At(62),
             Service::SlaveDataExchange => Sap::Absent,
-            Service::SlaveSetAddress => Sap::At(55),
-            Service::SlaveReadInputs => Sap::At(56),
-            Service::SlaveReadOutputs => Sap::At(57),
             Service::SlaveGlobalControl => Sap::At(58),
-            Service::SlaveGetCfg => Sap::At(59),
             Service::SlaveDiagnosis => Sap::At(60),
             Service::SlaveSetPrm => Sap::At(61),
             Service::SlaveChkCfg => Sap::At(62),

@@ -1,7 +1,7 @@
 // Requests and replies as values: no bytes on a wire here.
 ghost use mathlib.Core.Path.{_≡_};
 ghost use Rattle.fdl.specs.Bits.{cycled, fcbOf, fcvOf, bitNumber, bitOf, requestNumber};
-ghost use Rattle.fdl.specs.Reply.{statusOf, usableStatus, dataStatus, hasData, usableReply};
+ghost use Rattle.fdl.specs.Status.{among, codes, isShort, usableReply};
 use crate::consts::Sap;
 
 // The bit that tells a repeated request from a new one; inactive in global control.
@@ -26,16 +26,6 @@ pub struct DataTelegramHeader {
     pub ssap: Sap,
     pub fcb: FrameCountBit,
     pub req: RequestType,
-}
-
-// The status of a data reply; `Other` are the five usable codes that carry no data.
-pub enum ResponseStatus {
-    Ok,
-    SapNotEnabled,
-    DataLow,
-    DataHigh,
-    Other,
-    Unusable,
 }
 
 // What came in answer to a request; the payload of data is lent beside it.
@@ -117,63 +107,35 @@ impl RequestType {
     }
 }
 
-impl ResponseStatus {
-    pub fn of(code: u8) -> ResponseStatus
-        ensures { λ r. ⌜ r ≡ statusOf code ⌝ }
-    {
-        match code {
-            0 => ResponseStatus::Ok,
-            1 => ResponseStatus::Other,
-            2 => ResponseStatus::Other,
-            3 => ResponseStatus::SapNotEnabled,
-            8 => ResponseStatus::DataLow,
-            9 => ResponseStatus::Other,
-            10 => ResponseStatus::DataHigh,
-            12 => ResponseStatus::Other,
-            13 => ResponseStatus::Other,
-            _ => ResponseStatus::Unusable,
-        }
-    }
-
-    pub fn is_usable(self) -> bool
-        ensures { λ r. ⌜ r ≡ usableStatus self ⌝ }
-    {
-        match self {
-            ResponseStatus::Ok => true,
-            ResponseStatus::SapNotEnabled => true,
-            ResponseStatus::DataLow => true,
-            ResponseStatus::DataHigh => true,
-            ResponseStatus::Other => true,
-            ResponseStatus::Unusable => false,
-        }
-    }
-
-    pub fn is_data(self) -> bool
-        ensures { λ r. ⌜ r ≡ dataStatus self ⌝ }
-    {
-        match self {
-            ResponseStatus::Ok => true,
-            ResponseStatus::SapNotEnabled => false,
-            ResponseStatus::DataLow => true,
-            ResponseStatus::DataHigh => true,
-            ResponseStatus::Other => false,
-            ResponseStatus::Unusable => false,
-        }
+// Whether a status is one of the nine codes.
+fn usable_status(code: u8) -> bool
+    ensures { λ r. ⌜ r ≡ among code codes ⌝ }
+{
+    match code {
+        0 => true,
+        1 => true,
+        2 => true,
+        3 => true,
+        8 => true,
+        9 => true,
+        10 => true,
+        12 => true,
+        13 => true,
+        _ => false,
     }
 }
 
 impl Telegram {
-    // Whether it is data by its status.
-    pub fn has_data(self) -> bool
-        ensures { λ r. ⌜ r ≡ hasData self ⌝ }
+    pub fn is_short_confirmation(self) -> bool
+        ensures { λ r. ⌜ r ≡ isShort self ⌝ }
     {
         match self {
-            Telegram::ShortConfirmation => false,
+            Telegram::ShortConfirmation => true,
             Telegram::Data {
                 dsap: _,
                 ssap: _,
-                status,
-            } => ResponseStatus::of(status).is_data(),
+                status: _,
+            } => false,
             Telegram::Token => false,
             Telegram::Request => false,
         }
@@ -190,7 +152,7 @@ impl Telegram {
                 ssap: _,
                 status,
             } => {
-                if ResponseStatus::of(status).is_usable() {
+                if usable_status(status) {
                     len <= 246
                 } else {
                     false

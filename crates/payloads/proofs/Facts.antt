@@ -9,14 +9,14 @@ use lib.ListN.{length, take, drop, length-append}
 use lib.Dec.{leb, eqb}
 use borrow.Author.Tests.{lt-leb, leb-true, leb-false}
 use Rattle.parts.specs.Parts.{inside, roomFor, putIn, Put}
-use Rattle.parts.proofs.Laws.{and-right, room-own, room-new, put-kept, inside-yes, inside-leb, length-put, lent-put, put-append}
+use Rattle.parts.proofs.Laws.{and-right, room-own, put-kept, inside-yes, inside-leb, length-put, lent-put, put-append}
 use Rattle.fdl.specs.declared.parameters.Parameters.{Parameters}
 use Rattle.payloads.specs.declared.options.PeripheralOptions.{PeripheralOptions}
 use Rattle.payloads.specs.Payload.{paramHead, Written}
 use Rattle.fdl.specs.Sap.{sapNumber}
 use Rattle.fdl.specs.declared.telegram.Telegram.{Telegram}
 use Rattle.fdl.specs.declared.telegram.Telegram.the-variants.{ShortConfirmation, Data, Token, Request}
-use Rattle.payloads.specs.Diagnosis.{taken, ExtStored}
+use Rattle.payloads.specs.Diagnosis.{taken}
 
 -- ---- a payload at the front of the buffer
 
@@ -73,18 +73,6 @@ module _ (u : Parameters) (o : PeripheralOptions) (user buf : List ℕ) where
 
   pub unbuilt : leb (7 + length user) (length buf) ≡ false → Written (paramHead u o ++ user) buf buf 0
   unbuilt t = unwritten-short (paramHead u o ++ user) buf (omega (arith, payload-length, leb-false (7 + length user) (length buf) t))
-
--- ---- the extended part in its room
-
-module _ (at room kept : ℕ) (ext diags out : List ℕ) (fitted : Bool) (s : Put at room ext diags out fitted) where
-  pub ext-short : fitted ≡ true → length ext ≤ room
-  ext-short t = room-new at room ext diags (sym (s .answer) ∙ t)
-
-  pub ext-stored : fitted ≡ true → ExtStored at room kept ext diags out (length ext)
-  ext-stored t = record { stored = rw (sym (s .answer) ∙ t) refl; bytes = s .bytes }
-
-  pub ext-kept : fitted ≡ false → ExtStored at room kept ext diags out kept
-  ext-kept t = record { stored = rw (sym (s .answer) ∙ t) refl; bytes = s .bytes }
 
 -- ---- a diagnosis that is taken has six bytes
 

@@ -1,16 +1,16 @@
--- A diagnosis reply: when it is taken, what it says, and where its extended part goes.
+-- A diagnosis reply: when it is taken, and what it says.
 -- From 01, "One visit and one reply", the paragraph on diagnosis replies, and "The unit and its sizes" on the last diagnosis.
-use mathlib.Core.Path.{_≡_}
 use Prim.Native.Nat.{ℕ, _+_, _-_, _*_, _/_, _%_}
-use mathlib.Core.Bool.{Bool, true, false, _&&_, cond}
+use mathlib.Core.Bool.{Bool, true, false, _&&_}
 use mathlib.Core.List.{List}
-use lib.ListN.{length, getD}
+use lib.ListN.{getD}
 use lib.Dec.{leb, eqb}
-use Rattle.parts.specs.Parts.{roomFor, putIn}
 use Rattle.fdl.specs.Sap.{sapNumber}
 use Rattle.fdl.specs.declared.telegram.Telegram.{Telegram}
 use Rattle.fdl.specs.declared.telegram.Telegram.the-variants.{ShortConfirmation, Data, Token, Request}
 use Rattle.payloads.specs.declared.diagnosis.DiagnosticsInfo.{DiagnosticsInfo}
+use Rattle.payloads.specs.declared.diagnosis.DiagnosticFlags.{DiagnosticFlags}
+use Rattle.payloads.specs.declared.diagnosis.DiagnosticFlags.the-variants.{StationNotReady, ConfigurationFault, ExtDiag, ParameterFault, ParameterRequired, PermanentBit}
 
 -- no diagnosis: the master is 255, none
 abbrev pub noDiagnosis : DiagnosticsInfo
@@ -22,6 +22,15 @@ taken ShortConfirmation n = false
 taken (Data dsap ssap status) n = eqb (sapNumber dsap) 62 && eqb (sapNumber ssap) 60 && leb 6 n
 taken Token n = false
 taken Request n = false
+
+-- the weight of each flag that the code names
+abbrev pub flagNumber : DiagnosticFlags → ℕ
+flagNumber StationNotReady = 0x0002
+flagNumber ConfigurationFault = 0x0004
+flagNumber ExtDiag = 0x0008
+flagNumber ParameterFault = 0x0040
+flagNumber ParameterRequired = 0x0100
+flagNumber PermanentBit = 0x0400
 
 -- the flag of that weight is set
 abbrev pub flag : ℕ → ℕ → Bool
@@ -44,8 +53,3 @@ diagnosisOf p =
 -- 0x0008: the part from byte 6 is handed on
 abbrev pub extended : List ℕ → Bool
 extended p = flag 0x0008 (diagnosisOf p .flags)
-
--- it is stored when it fits its room; otherwise the stored part and its length stay
-pub record ExtStored (at room kept : ℕ) (ext diags out : List ℕ) (r : ℕ) : Type 0 where
-  pub stored : r ≡ cond (roomFor at room ext diags) (length ext) kept
-  pub bytes : out ≡ putIn at room ext diags

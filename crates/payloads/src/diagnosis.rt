@@ -1,7 +1,8 @@
 // A diagnosis reply: taken or not, read, and its extended part stored.
 ghost use mathlib.Core.Path.{_≡_};
 ghost use Prim.Native.Nat.{_<_};
-ghost use Rattle.payloads.specs.Diagnosis.{noDiagnosis, taken, diagnosisOf, ExtStored};
+ghost use Rattle.parts.specs.Parts.{putIn};
+ghost use Rattle.payloads.specs.Diagnosis.{noDiagnosis, taken, flag, flagNumber, diagnosisOf};
 use fdl::telegram::Telegram;
 
 // The last diagnosis; a master of 255 is none.
@@ -23,6 +24,38 @@ impl DiagnosticsInfo {
             master_address: 255,
             held: false,
         }
+    }
+}
+
+// The flags of a diagnosis that a rule looks at.
+pub enum DiagnosticFlags {
+    StationNotReady,
+    ConfigurationFault,
+    ExtDiag,
+    ParameterFault,
+    ParameterRequired,
+    PermanentBit,
+}
+
+impl DiagnosticFlags {
+    pub fn number(self) -> u16
+        ensures { λ r. ⌜ (r ≡ flagNumber self) × (0 < r) ⌝ }
+    {
+        match self {
+            DiagnosticFlags::StationNotReady => 0x0002,
+            DiagnosticFlags::ConfigurationFault => 0x0004,
+            DiagnosticFlags::ExtDiag => 0x0008,
+            DiagnosticFlags::ParameterFault => 0x0040,
+            DiagnosticFlags::ParameterRequired => 0x0100,
+            DiagnosticFlags::PermanentBit => 0x0400,
+        }
+    }
+
+    // Whether it is set. By division: a mask has no laws to prove it by.
+    pub fn is_in(self, flags: u16) -> bool
+        ensures { λ r. ⌜ r ≡ flag (flagNumber self) flags ⌝ }
+    {
+        flags / self.number() % 2 == 1
     }
 }
 
@@ -60,20 +93,18 @@ pub fn read_diagnosis(p: &[u8]) -> DiagnosticsInfo
     ensures { λ r. ⌜ r ≡ diagnosisOf (now (p .entry)) ⌝ }
 {
     let raw = wide(parts::byte_at(p, 0)) + 256 * wide(parts::byte_at(p, 1));
+    let bit = DiagnosticFlags::PermanentBit.number();
     DiagnosticsInfo {
-        flags: raw - 1024 * (raw / 1024 % 2),
+        flags: raw - bit * (raw / bit % 2),
         ident_number: 256 * wide(parts::byte_at(p, 4)) + wide(parts::byte_at(p, 5)),
         master_address: parts::byte_at(p, 3),
         held: true,
     }
 }
 
-// The extended part goes to its room where it fits; answers how many bytes are stored then.
-pub fn store_extended(diags: &mut [u8], at: usize, room: u8, kept: u8, ext: &[u8]) -> u8
-    ensures { λ r. ⌜ ExtStored at room kept (now (ext .entry)) (now (diags .entry)) (now (diags .exit)) r ⌝ }
+// The extended part goes to its room where it fits.
+pub fn store_extended(diags: &mut [u8], at: usize, room: u8, ext: &[u8])
+    ensures { λ _. ⌜ now (diags .exit) ≡ putIn at room (now (ext .entry)) (now (diags .entry)) ⌝ }
 {
-    if parts::copy_at(diags, at, parts::widen8(room), ext) {
-        return ext.len() as u8;
-    }
-    kept
+    parts::copy_at(diags, at, parts::widen8(room), ext);
 }

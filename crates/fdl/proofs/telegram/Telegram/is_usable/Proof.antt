@@ -10,11 +10,8 @@ enum-told c = search needs
 enum-known-self : tie.Need-enum-known-self
 enum-known-self c = search needs
 
-of-requires : tie.Need-of-requires
-of-requires c κs = search needs
-
-is-usable-requires : tie.Need-is-usable-requires
-is-usable-requires c κs = search needs
+usable-status-requires : tie.Need-usable-status-requires
+usable-status-requires c κs = search needs
 
 enum-told-2 : tie.Need-enum-told-2
 enum-told-2 c = search needs
@@ -27,11 +24,11 @@ returns c = search needs
 
 returns-2 : tie.Need-returns-2
 returns-2 c =
-    simp (c .before .before .before .before .self .given .1, ← c .before .before .of .ensures, sym (c .before .is-usable .ensures) ∙ c .if1 .taken)
+    simp (c .before .before .before .self .given .1, sym (c .before .usable-status .ensures) ∙ c .if1 .taken)
 
 returns-3 : tie.Need-returns-3
 returns-3 c =
-    simp (c .before .before .before .before .self .given .1, ← c .before .before .of .ensures, sym (c .before .is-usable .ensures) ∙ c .if1 .left)
+    simp (c .before .before .before .self .given .1, sym (c .before .usable-status .ensures) ∙ c .if1 .left)
 
 returns-4 : tie.Need-returns-4
 returns-4 c = search needs
@@ -45,8 +42,7 @@ is-usable-spec =
     (tie.spec
     enum-told
     enum-known-self
-    of-requires
-    is-usable-requires
+    usable-status-requires
     enum-told-2
     enum-told-3
     returns

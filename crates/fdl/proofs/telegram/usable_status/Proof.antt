@@ -1,7 +1,7 @@
--- `ResponseStatus::of` meets its contract: each arm rewrites with its number, the default with all that it is not.
+-- `usable_status` meets its contract: each arm rewrites with its number, the default with all that it is not.
 use borrow.Author.Tests.{ne-eqb}
-use Rattle.fdl.proofs.telegram.ResponseStatus.of.Statement.{statement}
-use Rattle.fdl.proofs.telegram.ResponseStatus.of.Tie as tie
+use Rattle.fdl.proofs.telegram.usable_status.Statement.{statement}
+use Rattle.fdl.proofs.telegram.usable_status.Tie as tie
 
 returns : tie.Need-returns
 returns c = rw (c .match .keys1)
@@ -33,5 +33,5 @@ returns-9 c = rw (c .match .keys9)
 returns-10 : tie.Need-returns-10
 returns-10 c = simp (ne-eqb _ _ (c .match .rest .0 .0 .0 .0 .0 .0 .0 .0 .1), ne-eqb _ _ (c .match .rest .0 .0 .0 .0 .0 .0 .0 .1), ne-eqb _ _ (c .match .rest .0 .0 .0 .0 .0 .0 .1), ne-eqb _ _ (c .match .rest .0 .0 .0 .0 .0 .1), ne-eqb _ _ (c .match .rest .0 .0 .0 .0 .1), ne-eqb _ _ (c .match .rest .0 .0 .0 .1), ne-eqb _ _ (c .match .rest .0 .0 .1), ne-eqb _ _ (c .match .rest .0 .1), ne-eqb _ _ (c .match .rest .1))
 
-pub of-spec : {M : Type 1} → statement M
-of-spec = tie.close (tie.spec returns returns-2 returns-3 returns-4 returns-5 returns-6 returns-7 returns-8 returns-9 returns-10)
+pub usable-status-spec : {M : Type 1} → statement M
+usable-status-spec = tie.close (tie.spec returns returns-2 returns-3 returns-4 returns-5 returns-6 returns-7 returns-8 returns-9 returns-10)
