@@ -1,6 +1,7 @@
 -- The four requests, number and header, and the header of the global control.
 -- From 01, "One visit and one reply", the table of requests, and "One turn" on global control; the numbers are ours, 0 stands for none.
 use Prim.Native.Nat.{ℕ}
+use mathlib.Core.Bool.{Bool, true, false}
 use Rattle.fdl.specs.declared.consts.Sap.{Sap}
 use Rattle.fdl.specs.declared.consts.Sap.the-variants.{Absent, At}
 use Rattle.fdl.specs.declared.telegram.FrameCountBit.{FrameCountBit}
@@ -16,6 +17,18 @@ kindNumber Diagnosis = 1
 kindNumber Parameters = 2
 kindNumber Configuration = 3
 kindNumber Data = 4
+
+abbrev pub isDiagnosis : Request → Bool
+isDiagnosis Diagnosis = true
+isDiagnosis Parameters = false
+isDiagnosis Configuration = false
+isDiagnosis Data = false
+
+abbrev pub isData : Request → Bool
+isData Diagnosis = false
+isData Parameters = false
+isData Configuration = false
+isData Data = true
 
 -- the table of requests: DSAP, SSAP, priority
 abbrev pub dsapOf : Request → Sap

@@ -1,23 +1,20 @@
 -- What a visit changes and keeps, and which visits send what.
--- The idea: a visit is one of three, and each state asks for one thing.
+-- The idea: a visit is one of three, and each state is about one request.
 use mathlib.Core.Path.{_≡_, refl, sym, ap, _∙_}
-use mathlib.Core.Bool.{Bool, true, false, not, _&&_, cond}
-use Prim.Native.Nat.{ℕ, _+_, _≤_, _<_}
-use native.Mathlib.Omega.{arith}
-use lib.Dec.{ltb, leb, eqb}
-use borrow.Author.Tests.{ltb-true, ltb-false, lt-leb, le-leb, lt-ltb, le-ltb}
+use mathlib.Core.Bool.{Bool, true, false, _&&_, false≢true, cond}
+use Prim.Native.Nat.{ℕ}
+use lib.Dec.{ltb, leb}
+use borrow.Author.Tests.{ltb-true, ltb-false, lt-leb, le-leb}
 use Rattle.parts.proofs.Laws.{by-test}
-use Rattle.payloads.specs.declared.request.Request.{Request}
-use Rattle.payloads.specs.declared.request.Request.the-variants.{Diagnosis, Parameters, Configuration, Data}
+use Rattle.payloads.specs.Request.{isData}
 use Rattle.station.specs.declared.record.Station.{Station}
 use Rattle.station.specs.declared.state.PeripheralState.{PeripheralState}
 use Rattle.station.specs.declared.state.PeripheralState.the-variants.{Offline, WaitForParam, WaitForConfig, ValidateConfig, PreDataExchange, DataExchange}
 use Rattle.station.specs.declared.visit.Visited.{Visited}
 use Rattle.station.specs.declared.visit.Visited.the-variants.{Sends, Drops, Skips}
 use Rattle.station.specs.State.{stateOf}
-use Rattle.station.specs.Record.{changed, oneMore}
-use Rattle.station.specs.Visit.{wishIn, wishOf, visitedOf}
-use Rattle.station.specs.Reply.{awaitsData}
+use Rattle.station.specs.Record.{changed}
+use Rattle.station.specs.Visit.{requestIn, requestOf, canSend, actionOf, visitedOf}
 
 -- a visit changes the state and the count, and nothing else
 pub visit-keeps : (w : Visited) (s : Station)
@@ -28,56 +25,45 @@ visit-keeps Skips s = refl
 
 -- ---- which visits do what
 
-abbrev pub falls : Visited → Bool
-falls (Sends k) = false
-falls Drops = true
-falls Skips = false
+abbrev pub drops : Visited → Bool
+drops (Sends k) = false
+drops Drops = true
+drops Skips = false
 
-abbrev dataRequest : Request → Bool
-dataRequest Diagnosis = false
-dataRequest Parameters = false
-dataRequest Configuration = false
-dataRequest Data = true
+abbrev pub sendsData : Visited → Bool
+sendsData (Sends k) = isData k
+sendsData Drops = false
+sendsData Skips = false
 
-abbrev pub asksData : Visited → Bool
-asksData (Sends k) = dataRequest k
-asksData Drops = false
-asksData Skips = false
+-- a state that is about data can always be asked
+can-send-data : (x : PeripheralState) (due : Bool) (count : ℕ) (user config : Bool) → isData (requestIn x due) ≡ true → canSend x count user config ≡ true
+can-send-data Offline due count user config e = absurd (false≢true e)
+can-send-data WaitForParam due count user config e = absurd (false≢true e)
+can-send-data WaitForConfig due count user config e = absurd (false≢true e)
+can-send-data ValidateConfig due count user config e = refl
+can-send-data PreDataExchange due count user config e = refl
+can-send-data DataExchange due count user config e = refl
 
 module _ (user config : Bool) (s : Station) where
-  due-stays : (b : Bool) → falls (cond b (Sends Diagnosis) (Sends Data)) ≡ false
-  due-stays true = refl
-  due-stays false = refl
-
-  wish-stays : (x : PeripheralState) → falls (wishIn x user config s) ≡ false
-  wish-stays Offline = by-test (eqb (s .«retry_count») 0) (λ e. rw e refl) (λ e. rw e refl)
-  wish-stays WaitForParam = by-test user (λ e. rw e refl) (λ e. rw e refl)
-  wish-stays WaitForConfig = by-test config (λ e. rw e refl) (λ e. rw e refl)
-  wish-stays ValidateConfig = refl
-  wish-stays PreDataExchange = due-stays (s .«diag_needed»)
-  wish-stays DataExchange = due-stays (s .«diag_needed»)
-
-  due-asks : (b : Bool) → asksData (cond b (Sends Diagnosis) (Sends Data)) ≡ not b
-  due-asks true = refl
-  due-asks false = refl
-
-  wish-asks : (x : PeripheralState) → asksData (wishIn x user config s) ≡ awaitsData x (s .«diag_needed»)
-  wish-asks Offline = by-test (eqb (s .«retry_count») 0) (λ e. rw e refl) (λ e. rw e refl)
-  wish-asks WaitForParam = by-test user (λ e. rw e refl) (λ e. rw e refl)
-  wish-asks WaitForConfig = by-test config (λ e. rw e refl) (λ e. rw e refl)
-  wish-asks ValidateConfig = refl
-  wish-asks PreDataExchange = due-asks (s .«diag_needed»)
-  wish-asks DataExchange = due-asks (s .«diag_needed»)
+  -- its request can be sent
+  can : Bool
+  can = canSend (stateOf (s .state)) (s .«retry_count») user config
 
   -- Offline is reported exactly where the count is above the limit
-  pub wish-falls : (limit : ℕ) → falls (wishOf limit user config s) ≡ ltb limit (s .«retry_count»)
-  unfolding wishOf
-  wish-falls limit = by-test (ltb limit (s .«retry_count»)) (λ e. rw e refl) (λ e. rw e (wish-stays (stateOf (s .state))))
+  pub action-drops : (limit : ℕ) → drops (actionOf limit user config s) ≡ ltb limit (s .«retry_count»)
+  unfolding actionOf can
+  action-drops limit = by-test (ltb limit (s .«retry_count»)) (λ e. rw e refl) (λ e. by-test can (λ k. rw (e, k) refl) (λ k. rw (e, k) refl))
 
-  -- data is asked for exactly where the count is within the limit and the state waits for data
-  pub wish-data : (limit : ℕ) → asksData (wishOf limit user config s) ≡ (leb (s .«retry_count») limit && awaitsData (stateOf (s .state)) (s .«diag_needed»))
-  unfolding wishOf
-  wish-data limit =
+  asked-data : sendsData (cond can (Sends (requestOf s)) Skips) ≡ isData (requestOf s)
+  unfolding can
+  asked-data =
+      by-test (isData (requestOf s)) (λ d. rw (can-send-data (stateOf (s .state)) (s .«diag_needed») (s .«retry_count») user config d) refl)
+      (λ d. by-test can (λ k. rw k refl) (λ k. rw k (sym d)))
+
+  -- data is asked for exactly where the count is within the limit and the state is about data
+  pub action-data : (limit : ℕ) → sendsData (actionOf limit user config s) ≡ (leb (s .«retry_count») limit && isData (requestOf s))
+  unfolding actionOf can
+  action-data limit =
       by-test (ltb limit (s .«retry_count»))
       (λ e. rw (e, lt-leb (s .«retry_count») limit (ltb-true limit (s .«retry_count») e)) refl)
-      (λ e. rw (e, le-leb (s .«retry_count») limit (ltb-false limit (s .«retry_count») e)) (wish-asks (stateOf (s .state))))
+      (λ e. rw (e, le-leb (s .«retry_count») limit (ltb-false limit (s .«retry_count») e)) asked-data)

@@ -1,4 +1,4 @@
 pub mod State
 pub mod Record
 pub mod Visit
-pub mod Reply
+pub mod Heard

@@ -1,7 +1,7 @@
 -- The part of a balance's record that visits and replies change: as newly added, what each rule changes in it, and what is read off it.
 -- From 01, "The unit and its sizes" (adding, the last diagnosis) and "One visit and one reply" (count, bit, due).
 use Prim.Native.Nat.{ℕ, _+_}
-use mathlib.Core.Bool.{Bool, true, false, cond}
+use mathlib.Core.Bool.{Bool, false, cond}
 use lib.Dec.{ltb}
 use Rattle.fdl.specs.Bits.{cycled, bitNumber, bitOf}
 use Rattle.fdl.specs.declared.telegram.FrameCountBit.the-variants.{First}
@@ -9,8 +9,8 @@ use Rattle.payloads.specs.declared.diagnosis.DiagnosticsInfo.{DiagnosticsInfo}
 use Rattle.payloads.specs.Diagnosis.{noDiagnosis}
 use Rattle.station.specs.declared.record.Station.{Station}
 use Rattle.station.specs.declared.state.PeripheralState.{PeripheralState}
-use Rattle.station.specs.declared.state.PeripheralState.the-variants.{Offline, WaitForParam, WaitForConfig, ValidateConfig, PreDataExchange, DataExchange}
-use Rattle.station.specs.State.{numberOf, stateOf}
+use Rattle.station.specs.declared.state.PeripheralState.the-variants.{Offline}
+use Rattle.station.specs.State.{numberOf, stateOf, liveState, runningState}
 
 -- as newly added: Offline, count 0, the bit at First, no diagnosis held or due, stored length 0
 abbrev pub newStation : ℕ → Station
@@ -58,27 +58,15 @@ dueIs b p = changed p (p .state) (p .«retry_count») (p .fcb) b (p .«diag_len�
 abbrev pub holding : DiagnosticsInfo → ℕ → Station → Station
 holding d n p = changed p (p .state) (p .«retry_count») (p .fcb) (p .«diag_needed») n d
 
+-- with a diagnosis taken, of which so many bytes are stored: taking cycles the frame bit
+unfoldable pub withDiagnosis : DiagnosticsInfo → ℕ → Station → Station
+withDiagnosis d n p = cycling (holding d n p)
+
 -- one more, which stays at 255
 abbrev pub oneMore : ℕ → ℕ
 oneMore n = cond (ltb n 255) (n + 1) 255
 
 -- ---- what the accessors read
-
-abbrev pub liveState : PeripheralState → Bool
-liveState Offline = false
-liveState WaitForParam = true
-liveState WaitForConfig = true
-liveState ValidateConfig = true
-liveState PreDataExchange = true
-liveState DataExchange = true
-
-abbrev pub runningState : PeripheralState → Bool
-runningState Offline = false
-runningState WaitForParam = false
-runningState WaitForConfig = false
-runningState ValidateConfig = false
-runningState PreDataExchange = false
-runningState DataExchange = true
 
 abbrev pub isLive : Station → Bool
 isLive p = liveState (stateOf (p .state))
@@ -93,7 +81,3 @@ lastDiagnosis p = cond (p .diag .held) (p .diag) noDiagnosis
 -- and how many bytes of it are stored
 abbrev pub storedPart : Station → ℕ
 storedPart p = cond (p .diag .held) (p .«diag_len») 0
-
--- with a diagnosis taken, of which so many bytes are stored: taking cycles the frame bit
-unfoldable pub tookOf : DiagnosticsInfo → ℕ → Station → Station
-tookOf d n p = cycling (holding d n p)

@@ -1,6 +1,6 @@
--- The states and the events, with the number of each.
+-- The states and the events, with the number of each; which states are live, and which is running.
 -- From 01, "One visit and one reply"; the numbers are those of docs/SCRIPTS.md.
-use mathlib.Core.Bool.{cond}
+use mathlib.Core.Bool.{Bool, true, false, cond}
 use Prim.Native.Nat.{ℕ}
 use lib.Dec.{eqb}
 use Rattle.station.specs.declared.state.PeripheralState.{PeripheralState}
@@ -22,6 +22,24 @@ stateOf n =
     cond (eqb n 1) WaitForParam
     (cond (eqb n 2) WaitForConfig
     (cond (eqb n 3) ValidateConfig (cond (eqb n 4) PreDataExchange (cond (eqb n 5) DataExchange Offline))))
+
+-- responds on the bus
+abbrev pub liveState : PeripheralState → Bool
+liveState Offline = false
+liveState WaitForParam = true
+liveState WaitForConfig = true
+liveState ValidateConfig = true
+liveState PreDataExchange = true
+liveState DataExchange = true
+
+-- exchanges data
+abbrev pub runningState : PeripheralState → Bool
+runningState Offline = false
+runningState WaitForParam = false
+runningState WaitForConfig = false
+runningState ValidateConfig = false
+runningState PreDataExchange = false
+runningState DataExchange = true
 
 abbrev pub eventNumber : PeripheralEvent → ℕ
 eventNumber NoEvent = 0

@@ -1,8 +1,9 @@
--- A visit: what it does, and the station afterwards.
+-- A visit: which request a state is about, what the visit does, and the station afterwards.
 -- From 01, "One visit and one reply", its first paragraph.
 use Prim.Native.Nat.{ℕ}
-use mathlib.Core.Bool.{Bool, cond}
+use mathlib.Core.Bool.{Bool, true, cond}
 use lib.Dec.{ltb, eqb}
+use Rattle.payloads.specs.declared.request.Request.{Request}
 use Rattle.payloads.specs.declared.request.Request.the-variants.{Diagnosis, Parameters, Configuration, Data}
 use Rattle.station.specs.declared.record.Station.{Station}
 use Rattle.station.specs.declared.state.PeripheralState.{PeripheralState}
@@ -12,18 +13,32 @@ use Rattle.station.specs.declared.visit.Visited.the-variants.{Sends, Dro
 use Rattle.station.specs.State.{stateOf}
 use Rattle.station.specs.Record.{inState, counting, oneMore}
 
--- what a state asks for while the count is within the limit; user, config: set-up data that is needed is there
-abbrev pub wishIn : PeripheralState → Bool → Bool → Station → Visited
-wishIn Offline user config p = cond (eqb (p .«retry_count») 0) (Sends Diagnosis) Skips
-wishIn WaitForParam user config p = cond user (Sends Parameters) Skips
-wishIn WaitForConfig user config p = cond config (Sends Configuration) Skips
-wishIn ValidateConfig user config p = Sends Diagnosis
-wishIn PreDataExchange user config p = cond (p .«diag_needed») (Sends Diagnosis) (Sends Data)
-wishIn DataExchange user config p = cond (p .«diag_needed») (Sends Diagnosis) (Sends Data)
+-- the request that a state is about, a diagnosis being due or not: a visit sends it, and a reply is judged as its answer
+abbrev pub requestIn : PeripheralState → Bool → Request
+requestIn Offline due = Diagnosis
+requestIn WaitForParam due = Parameters
+requestIn WaitForConfig due = Configuration
+requestIn ValidateConfig due = Diagnosis
+requestIn PreDataExchange due = cond due Diagnosis Data
+requestIn DataExchange due = cond due Diagnosis Data
 
--- the first line that applies: count above the limit, else what the state asks for
-unfoldable pub wishOf : ℕ → Bool → Bool → Station → Visited
-wishOf limit user config p = cond (ltb limit (p .«retry_count»)) Drops (wishIn (stateOf (p .state)) user config p)
+abbrev pub requestOf : Station → Request
+requestOf p = requestIn (stateOf (p .state)) (p .«diag_needed»)
+
+-- it can be sent: Offline only with count 0, and set-up data (user, config) where it is needed
+abbrev pub canSend : PeripheralState → ℕ → Bool → Bool → Bool
+canSend Offline count user config = eqb count 0
+canSend WaitForParam count user config = user
+canSend WaitForConfig count user config = config
+canSend ValidateConfig count user config = true
+canSend PreDataExchange count user config = true
+canSend DataExchange count user config = true
+
+-- what a visit does, by the first line that applies: count above the limit; the request, where it can be sent; else a skip
+unfoldable pub actionOf : ℕ → Bool → Bool → Station → Visited
+actionOf limit user config p =
+    cond (ltb limit (p .«retry_count»)) Drops
+    (cond (canSend (stateOf (p .state)) (p .«retry_count») user config) (Sends (requestOf p)) Skips)
 
 -- sending adds 1 to the count; Offline and a skip put it to 0
 abbrev pub visitedOf : Visited → Station → Station

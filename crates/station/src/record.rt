@@ -1,7 +1,7 @@
 // The part of a peripheral's record that visits and replies change.
 ghost use mathlib.Core.Path.{_≡_};
 ghost use mathlib.Core.Bool.{true};
-ghost use Rattle.station.specs.Record.{newStation, dueIs, isLive, isRunning, lastDiagnosis, storedPart, tookOf};
+ghost use Rattle.station.specs.Record.{newStation, cycling, dueIs, isLive, isRunning, lastDiagnosis, storedPart};
 use crate::state::PeripheralState;
 use fdl::telegram::FrameCountBit;
 use payloads::diagnosis::DiagnosticsInfo;
@@ -25,9 +25,9 @@ impl Station {
         let diag = DiagnosticsInfo::none();
         Station {
             address: address,
-            state: 0,
+            state: PeripheralState::Offline.number(),
             retry_count: 0,
-            fcb: 1,
+            fcb: FrameCountBit::First.number(),
             diag_needed: false,
             diag_len: 0,
             diag: diag,
@@ -38,30 +38,23 @@ impl Station {
     pub fn is_live(self) -> bool
         ensures { λ r. ⌜ r ≡ isLive self ⌝ }
     {
-        let state = PeripheralState::of(self.state);
-        match state {
-            PeripheralState::Offline => false,
-            PeripheralState::WaitForParam => true,
-            PeripheralState::WaitForConfig => true,
-            PeripheralState::ValidateConfig => true,
-            PeripheralState::PreDataExchange => true,
-            PeripheralState::DataExchange => true,
-        }
+        PeripheralState::of(self.state).is_live()
     }
 
     // Whether it exchanges data.
     pub fn is_running(self) -> bool
         ensures { λ r. ⌜ r ≡ isRunning self ⌝ }
     {
-        let state = PeripheralState::of(self.state);
-        match state {
-            PeripheralState::Offline => false,
-            PeripheralState::WaitForParam => false,
-            PeripheralState::WaitForConfig => false,
-            PeripheralState::ValidateConfig => false,
-            PeripheralState::PreDataExchange => false,
-            PeripheralState::DataExchange => true,
-        }
+        PeripheralState::of(self.state).is_running()
+    }
+
+    // With the frame bit cycled.
+    pub fn cycled(self) -> Station
+        ensures { λ r. ⌜ r ≡ cycling self ⌝ }
+    {
+        let mut s = self;
+        s.fcb = FrameCountBit::of(self.fcb).cycle().number();
+        s
     }
 
     // A wish for a diagnosis.
@@ -88,16 +81,5 @@ impl Station {
         ensures { λ r. ⌜ r ≡ storedPart self ⌝ }
     {
         if self.diag.held { self.diag_len } else { 0 }
-    }
-
-    // With a diagnosis taken, of which so many bytes are stored; taking cycles the frame bit.
-    pub fn took(self, diag: DiagnosticsInfo, stored: u8) -> Station
-        ensures { λ r. ⌜ r ≡ tookOf diag stored self ⌝ }
-    {
-        let mut s = self;
-        s.fcb = FrameCountBit::of(self.fcb).cycle().number();
-        s.diag_len = stored;
-        s.diag = diag;
-        s
     }
 }

@@ -1,6 +1,6 @@
 // The working words, and the number that stands for each in a record or in an answer.
 ghost use mathlib.Core.Path.{_≡_};
-ghost use Rattle.station.specs.State.{numberOf, stateOf, eventNumber};
+ghost use Rattle.station.specs.State.{numberOf, stateOf, liveState, runningState, eventNumber};
 
 pub enum PeripheralState {
     Offline,
@@ -48,6 +48,32 @@ impl PeripheralState {
             4 => PeripheralState::PreDataExchange,
             5 => PeripheralState::DataExchange,
             _ => PeripheralState::Offline,
+        }
+    }
+
+    pub fn is_live(self) -> bool
+        ensures { λ r. ⌜ r ≡ liveState self ⌝ }
+    {
+        match self {
+            PeripheralState::Offline => false,
+            PeripheralState::WaitForParam => true,
+            PeripheralState::WaitForConfig => true,
+            PeripheralState::ValidateConfig => true,
+            PeripheralState::PreDataExchange => true,
+            PeripheralState::DataExchange => true,
+        }
+    }
+
+    pub fn is_running(self) -> bool
+        ensures { λ r. ⌜ r ≡ runningState self ⌝ }
+    {
+        match self {
+            PeripheralState::Offline => false,
+            PeripheralState::WaitForParam => false,
+            PeripheralState::WaitForConfig => false,
+            PeripheralState::ValidateConfig => false,
+            PeripheralState::PreDataExchange => false,
+            PeripheralState::DataExchange => true,
         }
     }
 }

@@ -1,8 +1,7 @@
 // The visit that a turn makes: what it does, and the station afterwards.
 ghost use mathlib.Core.Path.{_≡_};
-ghost use mathlib.Core.Bool.{cond};
 ghost use Rattle.station.specs.Record.{oneMore};
-ghost use Rattle.station.specs.Visit.{wishOf, visitedOf};
+ghost use Rattle.station.specs.Visit.{requestIn, requestOf, canSend, actionOf, visitedOf};
 use crate::record::Station;
 use crate::state::PeripheralState;
 use payloads::request::Request;
@@ -21,40 +20,66 @@ fn one_more(count: u8) -> u8
     if count < 255 { count + 1 } else { 255 }
 }
 
-// The first where the test holds, else the second.
-fn either(test: bool, one: Visited, other: Visited) -> Visited
-    ensures { λ r. ⌜ r ≡ cond test one other ⌝ }
+// In the exchange states: a diagnosis that is due comes before data.
+fn exchange_request(due: bool) -> Request
+    ensures { λ r. ⌜ r ≡ requestIn PeripheralState.PreDataExchange due ⌝ }
 {
-    if test { one } else { other }
+    if due {
+        Request::Diagnosis
+    } else {
+        Request::Data
+    }
+}
+
+impl PeripheralState {
+    // The request that the state is about: a visit sends it, and a reply is judged as its answer.
+    pub fn request(self, due: bool) -> Request
+        ensures { λ r. ⌜ r ≡ requestIn self due ⌝ }
+    {
+        match self {
+            PeripheralState::Offline => Request::Diagnosis,
+            PeripheralState::WaitForParam => Request::Parameters,
+            PeripheralState::WaitForConfig => Request::Configuration,
+            PeripheralState::ValidateConfig => Request::Diagnosis,
+            PeripheralState::PreDataExchange => exchange_request(due),
+            PeripheralState::DataExchange => exchange_request(due),
+        }
+    }
+
+    // Whether it can be sent; user parameters and configuration are present or not.
+    pub fn can_send(self, count: u8, user: bool, config: bool) -> bool
+        ensures { λ r. ⌜ r ≡ canSend self count user config ⌝ }
+    {
+        match self {
+            PeripheralState::Offline => count == 0,
+            PeripheralState::WaitForParam => user,
+            PeripheralState::WaitForConfig => config,
+            PeripheralState::ValidateConfig => true,
+            PeripheralState::PreDataExchange => true,
+            PeripheralState::DataExchange => true,
+        }
+    }
 }
 
 impl Station {
+    // The request that its state is about.
+    pub fn request(self) -> Request
+        ensures { λ r. ⌜ r ≡ requestOf self ⌝ }
+    {
+        PeripheralState::of(self.state).request(self.diag_needed)
+    }
+
     // What a visit does; user parameters and configuration are present or not.
-    pub fn wish(self, limit: u8, user: bool, config: bool) -> Visited
-        ensures { λ r. ⌜ r ≡ wishOf limit user config self ⌝ }
+    pub fn action(self, limit: u8, user: bool, config: bool) -> Visited
+        ensures { λ r. ⌜ r ≡ actionOf limit user config self ⌝ }
     {
         if limit < self.retry_count {
             return Visited::Drops;
         }
-        let state = PeripheralState::of(self.state);
-        let diagnosis = Visited::Sends(Request::Diagnosis);
-        let data = Visited::Sends(Request::Data);
-        match state {
-            PeripheralState::Offline => either(self.retry_count == 0, diagnosis, Visited::Skips),
-            PeripheralState::WaitForParam => either(
-                user,
-                Visited::Sends(Request::Parameters),
-                Visited::Skips,
-            ),
-            PeripheralState::WaitForConfig => either(
-                config,
-                Visited::Sends(Request::Configuration),
-                Visited::Skips,
-            ),
-            PeripheralState::ValidateConfig => diagnosis,
-            PeripheralState::PreDataExchange => either(self.diag_needed, diagnosis, data),
-            PeripheralState::DataExchange => either(self.diag_needed, diagnosis, data),
+        if PeripheralState::of(self.state).can_send(self.retry_count, user, config) {
+            return Visited::Sends(self.request());
         }
+        Visited::Skips
     }
 
     // The station after that visit.
@@ -68,7 +93,7 @@ impl Station {
                 s
             }
             Visited::Drops => {
-                s.state = 0;
+                s.state = PeripheralState::Offline.number();
                 s.retry_count = 0;
                 s
             }

@@ -1,5 +1,6 @@
--- `is_running` meets its contract: an arm for each state.
-use mathlib.Core.Path.{sym, _∙_}
+-- `is_running` meets its contract, by what its state promises.
+use mathlib.Core.Path.{ap, _∙_}
+use Rattle.station.specs.State.{runningState}
 use borrow.Author.Needs.{needs}
 use Rattle.station.proofs.record.Station.is_running.Statement.{statement}
 use Rattle.station.proofs.record.Station.is_running.Tie as tie
@@ -7,62 +8,11 @@ use Rattle.station.proofs.record.Station.is_running.Tie as tie
 of-requires : tie.Need-of-requires
 of-requires c κs = search needs
 
-enum-told : tie.Need-enum-told
-enum-told c = search needs
-
-enum-told-2 : tie.Need-enum-told-2
-enum-told-2 c = search needs
-
-enum-told-3 : tie.Need-enum-told-3
-enum-told-3 c = search needs
-
-enum-told-4 : tie.Need-enum-told-4
-enum-told-4 c = search needs
-
-enum-told-5 : tie.Need-enum-told-5
-enum-told-5 c = search needs
-
-enum-told-6 : tie.Need-enum-told-6
-enum-told-6 c = search needs
+is-running-requires : tie.Need-is-running-requires
+is-running-requires c κs = search needs
 
 returns : tie.Need-returns
-returns c =
-    rw (sym (c .before .before .of .ensures) ∙ c .enum-told .given .1)
-
-returns-2 : tie.Need-returns-2
-returns-2 c =
-    rw (sym (c .before .before .of .ensures) ∙ c .enum-told2 .given .1)
-
-returns-3 : tie.Need-returns-3
-returns-3 c =
-    rw (sym (c .before .before .of .ensures) ∙ c .enum-told3 .given .1)
-
-returns-4 : tie.Need-returns-4
-returns-4 c =
-    rw (sym (c .before .before .of .ensures) ∙ c .enum-told4 .given .1)
-
-returns-5 : tie.Need-returns-5
-returns-5 c =
-    rw (sym (c .before .before .of .ensures) ∙ c .enum-told5 .given .1)
-
-returns-6 : tie.Need-returns-6
-returns-6 c =
-    rw (sym (c .before .before .of .ensures) ∙ c .enum-told6 .given .1)
+returns c = c .is-running .ensures ∙ ap runningState (c .before .of .ensures)
 
 pub is-running-spec : {M : Type 1} → statement M
-is-running-spec =
-    tie.close
-    (tie.spec
-    of-requires
-    enum-told
-    enum-told-2
-    enum-told-3
-    enum-told-4
-    enum-told-5
-    enum-told-6
-    returns
-    returns-2
-    returns-3
-    returns-4
-    returns-5
-    returns-6)
+is-running-spec = tie.close (tie.spec of-requires is-running-requires returns)
