@@ -1,40 +1,31 @@
--- What a visit and a reply keep of a balance, and what a reply does to the input pool.
--- The idea: both change the station alone; and the pool changes only where DataExchanged is reported, and then only in the image's range.
-use mathlib.Core.Path.{_≡_, refl, sym, ap, _∙_}
+-- What a reply does to the two pools, for the crates above.
+-- The idea: the input pool changes only where DataExchanged is reported, and then only in the image's range; a part that does not fit its room changes nothing.
+use mathlib.Core.Path.{_≡_, refl, sym, _∙_}
 use mathlib.Core.Bool.{Bool, true, false, _&&_, false≢true, cond}
 use mathlib.Core.Logic.{_⊎_}
 use mathlib.Core.List.{List, []}
-use Prim.Native.Nat.{ℕ, _+_, _≤_}
-use lib.ListN.{length}
-use lib.Dec.{eqb}
-use borrow.Author.Tests.{eqb-true}
+use Prim.Native.Nat.{ℕ, _+_, _-_, _≤_, _<_}
+use native.Mathlib.Omega.{arith}
+use lib.ListN.{length, drop, length-drop}
+use lib.Dec.{leb, eqb}
+use borrow.Author.Tests.{eqb-true, leb-true, leb-false, le-leb, lt-leb}
 use Rattle.parts.specs.Parts.{inside, part, roomFor}
-use Rattle.parts.proofs.Laws.{by-test, and-left, and-right, room-own, part-put, part-put-other, length-put, length-part}
-use Rattle.fdl.specs.Reply.{hasData, carried}
+use Rattle.parts.proofs.Laws.{by-test, and-left, and-right, room-own, part-put, part-put-other, length-put, put-kept, inside-leb}
+use Rattle.fdl.specs.Status.{isShort, carried}
 use Rattle.fdl.specs.declared.telegram.Telegram.{Telegram}
-use Rattle.fdl.specs.declared.telegram.Telegram.the-variants.{ShortConfirmation, Data, Token, Request}
-use Rattle.payloads.specs.Diagnosis.{taken}
-use Rattle.station.specs.declared.visit.Visited.{Visited}
-use Rattle.station.specs.declared.reply.Heard.{Heard}
+use Rattle.fdl.specs.declared.telegram.Telegram.the-variants.{ShortConfirmation, Data as DataReply, Token, Request as RequestTelegram}
+use Rattle.payloads.specs.Diagnosis.{extended, diagnosisOf, flag}
+use Rattle.payloads.specs.declared.request.Request.{Request}
+use Rattle.payloads.specs.declared.request.Request.the-variants.{Diagnosis, Parameters, Configuration, Data}
 use Rattle.station.specs.declared.state.PeripheralEvent.{PeripheralEvent}
-use Rattle.station.specs.Visit.{visitedOf}
-use Rattle.station.specs.Reply.{isExchanged}
-use Rattle.station.proofs.Laws.{waitsDiagnosis, waitsData, exchanges, heard-diagnosis-keeps, heard-data-event, heard-neither-keeps}
+use Rattle.station.specs.declared.state.PeripheralState.the-variants.{WaitForConfig, ValidateConfig}
+use Rattle.station.specs.Visit.{requestOf}
+use Rattle.station.specs.Heard.{isExchanged}
+use Rattle.station.proofs.Heards.{acknowledgement-keeps}
 use Rattle.peripheral.specs.declared.record.Peripheral.{Peripheral}
-use Rattle.peripheral.specs.declared.record.Ranges.{Ranges}
-use Rattle.peripheral.specs.Record.{stationIs, inputImage}
-use Rattle.peripheral.specs.Reply.{isImage, withImage, withHeard, stationTook, hearsOf, inputsOf}
-
--- ---- ranges and options stay, whatever is visited or heard
-
-pub visit-ranges : (w : Visited) (p : Peripheral) → stationIs (visitedOf w (p .station)) p .ranges ≡ p .ranges
-visit-ranges w p = refl
-
-pub reply-ranges : (p : Peripheral) (h : Heard) → withHeard p h .peripheral .ranges ≡ p .ranges
-reply-ranges p h = refl
-
-pub reply-options : (p : Peripheral) (h : Heard) → withHeard p h .peripheral .options ≡ p .options
-reply-options p h = refl
+use Rattle.peripheral.specs.Record.{inputImage}
+use Rattle.peripheral.specs.Response.{partFits, extendedIn, fitsImage, answerTo, replyOf, withImage, withPart, inputsOf, diagsOf}
+use Rattle.peripheral.proofs.Pools.{diagnosis-event, fits}
 
 -- ---- the input pool
 
@@ -51,41 +42,54 @@ module _ (e : PeripheralEvent) (came : List ℕ) (p : Peripheral) (inputs : List
 
 -- ---- with DataExchanged the image is what the reply carried
 
-module _ (t : Telegram) (p : Peripheral) (payload inputs diags : List ℕ) where
-  empty : Bool
-  empty = eqb (p .ranges .«input_len») 0
-
-  -- only a reply that has data, or a short confirmation for a 0-byte image, is reported so
-  exchanged-by : isExchanged (hearsOf t p payload inputs diags .event) ≡ true → exchanges t empty (isImage p payload inputs) ≡ true
-  unfolding hearsOf empty
-  exchanged-by x =
-      let tk = taken t (length payload) in
-      let q = stationTook p payload diags in
-      let fits = isImage p payload inputs in
-      by-test (waitsDiagnosis (p .station)) (λ w. absurd (false≢true (sym (heard-diagnosis-keeps t tk q empty (p .station) fits w) ∙ x)))
-      (λ w. by-test (waitsData (p .station)) (λ d. sym (heard-data-event t tk q empty (p .station) fits d) ∙ x)
-      (λ d. absurd (false≢true (sym (heard-neither-keeps t tk q empty (p .station) fits w d) ∙ x))))
-
-image-of : (p : Peripheral) (payload inputs : List ℕ) → isImage p payload inputs ≡ true → inputImage p (withImage p payload inputs) ≡ payload
-unfolding isImage
-image-of p payload inputs i =
-    let n : length payload ≡ p .ranges .«input_len» = eqb-true _ _ (and-left _ (inside (p .ranges .inputs) (p .ranges .«input_len») inputs) i) in
-    let lies : inside (p .ranges .inputs) (p .ranges .«input_len») inputs ≡ true = and-right (eqb (length payload) (p .ranges .«input_len»)) _ i in
-    let fits : roomFor (p .ranges .inputs) (length payload) payload inputs ≡ true = room-own (p .ranges .inputs) payload inputs ∙ (rw (← n) at lies) in
-    rw (← n) (part-put (p .ranges .inputs) (length payload) payload inputs ∙ (rw fits refl))
-
 none-of : (at : ℕ) (l : List ℕ) → part at 0 l ≡ []
 unfolding part
 none-of at l = by-test (inside at 0 l) (λ e. rw e refl) (λ e. rw e refl)
 
-image-by : (t : Telegram) (p : Peripheral) (payload inputs : List ℕ) → exchanges t (eqb (p .ranges .«input_len») 0) (isImage p payload inputs) ≡ true
+image-of : (t : Telegram) (p : Peripheral) (payload inputs : List ℕ) → fitsImage t p (length payload) (length inputs) ≡ true
     → inputImage p (withImage p (carried t payload) inputs) ≡ carried t payload
-image-by ShortConfirmation p payload inputs x = rw (eqb-true (p .ranges .«input_len») 0 x) (none-of (p .ranges .inputs) _)
-image-by (Data dsap ssap status) p payload inputs x = image-of p payload inputs (and-right (hasData (Data dsap ssap status)) (isImage p payload inputs) x)
-image-by Token p payload inputs x = absurd (false≢true x)
-image-by Request p payload inputs x = absurd (false≢true x)
+unfolding fitsImage
+image-of ShortConfirmation p payload inputs e = rw (eqb-true (p .ranges .«input_len») 0 e) (none-of (p .ranges .inputs) _)
+image-of (DataReply dsap ssap status) p payload inputs e =
+    let at = p .ranges .inputs in
+    let n : length payload ≡ p .ranges .«input_len» = eqb-true (length payload) (p .ranges .«input_len») (and-left _ (leb (at + p .ranges .«input_len») (length inputs)) e) in
+    let lies : inside at (p .ranges .«input_len») inputs ≡ true = sym (inside-leb at (p .ranges .«input_len») inputs) ∙ and-right (eqb (length payload) (p .ranges .«input_len»)) _ e in
+    let holds : roomFor at (length payload) payload inputs ≡ true = room-own at payload inputs ∙ (rw (← n) at lies) in
+    rw (← n) (part-put at (length payload) payload inputs ∙ (rw holds refl))
+image-of Token p payload inputs e = absurd (false≢true e)
+image-of RequestTelegram p payload inputs e = absurd (false≢true e)
 
-pub exchanged-image : (t : Telegram) (p : Peripheral) (payload inputs diags : List ℕ) → isExchanged (hearsOf t p payload inputs diags .event) ≡ true
-    → inputImage p (inputsOf (hearsOf t p payload inputs diags .event) (carried t payload) p inputs) ≡ carried t payload
-unfolding empty
-exchanged-image t p payload inputs diags x = rw x (image-by t p payload inputs (exchanged-by t p payload inputs diags x))
+module _ (t : Telegram) (p : Peripheral) (payload inputs diags : List ℕ) where
+  exchanged-by : (k : Request) → isExchanged (answerTo k t p payload (length inputs) (length diags) .event) ≡ true → fitsImage t p (length payload) (length inputs) ≡ true
+  unfolding answerTo
+  exchanged-by Diagnosis x = absurd (false≢true (sym (diagnosis-event t p payload inputs diags) ∙ x))
+  exchanged-by Parameters x = absurd (false≢true (sym (acknowledgement-keeps (isShort t) WaitForConfig (p .station)) ∙ x))
+  exchanged-by Configuration x = absurd (false≢true (sym (acknowledgement-keeps (isShort t) ValidateConfig (p .station)) ∙ x))
+  exchanged-by Data x = fits t p payload inputs diags x
+
+  pub exchanged-image : isExchanged (replyOf t p payload (length inputs) (length diags) .event) ≡ true
+      → inputImage p (inputsOf (replyOf t p payload (length inputs) (length diags) .event) (carried t payload) p inputs) ≡ carried t payload
+  exchanged-image x = rw x (image-of t p payload inputs (exchanged-by (requestOf (p .station)) x))
+
+-- ---- the pool for diagnosis
+
+module _ (p : Peripheral) (payload diags : List ℕ) where
+  -- a part that is handed on and is not stored does not fit its room
+  unfit : 6 ≤ length payload → (leb (length payload) (p .ranges .«diag_room» + 6) && leb (p .ranges .diag + p .ranges .«diag_room») (length diags)) ≡ false
+      → roomFor (p .ranges .diag) (p .ranges .«diag_room») (drop 6 payload) diags ≡ false
+  unfolding roomFor
+  unfit h e =
+      let n = length-drop 6 payload in
+      by-test (leb (length payload) (p .ranges .«diag_room» + 6))
+      (λ s. let shorter : leb (length (drop 6 payload)) (p .ranges .«diag_room») ≡ true = le-leb (length (drop 6 payload)) (p .ranges .«diag_room») (omega (arith, n, leb-true (length payload) (p .ranges .«diag_room» + 6) s)) in
+      rw shorter (sym (inside-leb (p .ranges .diag) (p .ranges .«diag_room») diags) ∙ (rw s at e)))
+      (λ s. let longer : leb (length (drop 6 payload)) (p .ranges .«diag_room») ≡ false = lt-leb (length (drop 6 payload)) (p .ranges .«diag_room») (omega (arith, n, leb-false (length payload) (p .ranges .«diag_room» + 6) s)) in rw longer refl)
+
+  -- a taken diagnosis puts the part where it is handed on; a put that does not fit leaves the pool alone
+  pub diags-put : 6 ≤ length payload → diagsOf true p payload diags ≡ cond (extended payload) (withPart p payload diags) diags
+  unfolding partFits
+  diags-put h =
+      by-test (flag 0x0008 (diagnosisOf payload .flags))
+      (λ f. by-test (leb (length payload) (p .ranges .«diag_room» + 6) && leb (p .ranges .diag + p .ranges .«diag_room») (length diags)) (λ e. rw (f, e) refl)
+      (λ e. rw (f, e) (sym (put-kept (p .ranges .diag) (p .ranges .«diag_room») (drop 6 payload) diags (unfit h e)))))
+      (λ f. rw f refl)

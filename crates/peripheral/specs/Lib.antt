@@ -1,3 +1,3 @@
 pub mod Record
 pub mod Visit
-pub mod Reply
+pub mod Response

@@ -21,7 +21,7 @@ impl Peripheral {
     pub fn visit(self, limit: u8) -> Visit
         ensures { λ r. ⌜ r ≡ visitOf limit self ⌝ }
     {
-        let what = self.station.wish(
+        let what = self.station.action(
             limit,
             self.options.has_user_parameters,
             self.options.has_config,

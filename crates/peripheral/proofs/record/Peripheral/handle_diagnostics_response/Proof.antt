@@ -1,24 +1,12 @@
--- `handle_diagnostics_response` meets its contract: taken or not, and where it is taken, with an extended part or not.
-use mathlib.Core.Path.{_≡_, refl, sym, _∙_}
-use native.Mathlib.Omega.{arith}
-use lib.ListN.{length}
-use Prim.Native.Nat.{_-_, _≤_}
-use Rattle.parts.proofs.Laws.{rest}
-use mathlib.Core.Bool.{true}
-use Rattle.payloads.specs.Diagnosis.{taken}
+-- `handle_diagnostics_response` meets its contract: taken or not.
+use mathlib.Core.Path.{sym, _∙_}
 use Rattle.payloads.proofs.Facts.{taken-six}
-use Rattle.peripheral.proofs.Facts.{took-extended, took-plain, not-taken}
+use Rattle.peripheral.specs.Response.{stationTook, answerTo, keepsOf}
 use borrow.Author.Needs.{needs}
 use Rattle.peripheral.proofs.record.Peripheral.handle_diagnostics_response.Statement.{
   statement,
 }
 use Rattle.peripheral.proofs.record.Peripheral.handle_diagnostics_response.Tie as tie
-
-is-taken : (c : tie.Then1) → taken (c .before .before .before .before .before .args .telegram) (length (c .before .before .before .before .before .args .payload .now)) ≡ true
-is-taken c = sym (c .before .is-taken .ensures) ∙ c .if1 .taken
-
-six : (c : tie.Then1) → 6 ≤ length (c .before .before .before .before .before .args .payload .now)
-six c = taken-six (c .before .before .before .before .before .args .telegram) (length (c .before .before .before .before .before .args .payload .now)) (is-taken c)
 
 is-taken-requires : tie.Need-is-taken-requires
 is-taken-requires c κs = search needs
@@ -26,43 +14,38 @@ is-taken-requires c κs = search needs
 read-diagnosis-requires : tie.Need-read-diagnosis-requires
 read-diagnosis-requires c κs = search needs
 
-widen16-requires : tie.Need-widen16-requires
-widen16-requires c κs = search needs
+extended-requires : tie.Need-extended-requires
+extended-requires c κs = let a = c .before .before .before .before .before .args in taken-six (a .telegram) _ (sym (c .before .before .is-taken .ensures) ∙ c .before .if1 .taken)
 
-sub-store-extended : tie.Need-sub-store-extended
-sub-store-extended c =
-    omega (arith, six (c .before .before .before .before))
+diagnosis-heard-requires : tie.Need-diagnosis-heard-requires
+diagnosis-heard-requires c κs = search needs
 
-part-store-extended-start : tie.Need-part-store-extended-start
-part-store-extended-start c =
-    omega (arith, six (c .before .before .before .before))
+part-if-requires : tie.Need-part-if-requires
+part-if-requires c κs = search needs
 
-part-store-extended-end : tie.Need-part-store-extended-end
-part-store-extended-end c = search needs
-
-store-extended-requires : tie.Need-store-extended-requires
-store-extended-requires c κs = search needs
-
-took-requires : tie.Need-took-requires
-took-requires c κs = search needs
-
-same-length : tie.Need-same-length
-same-length c = search needs
+with-heard-requires : tie.Need-with-heard-requires
+with-heard-requires c κs = search needs
 
 returns : tie.Need-returns
+unfolding stationTook answerTo keepsOf
 returns c =
-    let a = c .before .before .before .before .before .before .before .before .before .before .before .before .before .before .args in took-extended (a .telegram) (a .self) (a .payload .now) (a .diags .now) (is-taken (c .before .before .before .before .before .before .before .before .before)) (c .before .before .before .before .before .before .before .before .read-diagnosis .result) (c .before .before .before .before .before .before .before .before .read-diagnosis .ensures) (c .before .before .before .store-extended .result) (c .took .result) (c .took .ensures) (c .before .before .before .store-extended .last .0) _ (c .before .before .before .before .before .before .before .if2 .taken) (rest 6 (a .payload .now)) (rw (c .before .before .before .before .before .before .widen16 .ensures .0) at (c .before .before .before .store-extended .ensures))
+    let at-diagnosis-heard = c .before .before in
+    let at-extended = at-diagnosis-heard .before in
+    let read = at-extended .before in
+    let at-if1 = read .before in
+    let at-is-taken = at-if1 .before in
+    rw (sym (at-is-taken .is-taken .ensures) ∙ at-if1 .if1 .taken)
+    (rw (c .before .part-if .ensures, at-diagnosis-heard .diagnosis-heard .ensures, at-extended .extended .ensures, read .read-diagnosis .ensures) at (c .with-heard .ensures))
 
-took-requires-2 : tie.Need-took-requires-2
-took-requires-2 c κs = search needs
+diagnosis-missed-requires : tie.Need-diagnosis-missed-requires
+diagnosis-missed-requires c κs = search needs
+
+with-heard-requires-2 : tie.Need-with-heard-requires-2
+with-heard-requires-2 c κs = search needs
 
 returns-2 : tie.Need-returns-2
-returns-2 c =
-    let a = c .before .before .before .before .before .before .before .before .args in took-plain (a .telegram) (a .self) (a .payload .now) (a .diags .now) (is-taken (c .before .before .before)) (c .before .before .read-diagnosis .result) (c .before .before .read-diagnosis .ensures) (a .self .station .«diag_len») (c .took2 .result) (c .took2 .ensures) (c .before .if2 .left) refl
-
-returns-3 : tie.Need-returns-3
-returns-3 c =
-    let a = c .before .before .before .before .before .args in not-taken (a .telegram) (a .self) (a .payload .now) (a .diags .now) (sym (c .before .is-taken .ensures) ∙ c .if1 .left)
+unfolding answerTo keepsOf
+returns-2 c = rw (sym (c .before .before .before .is-taken .ensures) ∙ c .before .before .if1 .left) (rw (c .before .diagnosis-missed .ensures) at (c .with-heard2 .ensures))
 
 pub handle-diagnostics-response-spec : {M : Type 1} → statement M
 handle-diagnostics-response-spec =
@@ -70,14 +53,11 @@ handle-diagnostics-response-spec =
     (tie.spec
     is-taken-requires
     read-diagnosis-requires
-    widen16-requires
-    sub-store-extended
-    part-store-extended-start
-    part-store-extended-end
-    store-extended-requires
-    took-requires
-    same-length
+    extended-requires
+    diagnosis-heard-requires
+    part-if-requires
+    with-heard-requires
     returns
-    took-requires-2
-    returns-2
-    returns-3)
+    diagnosis-missed-requires
+    with-heard-requires-2
+    returns-2)
