@@ -15,6 +15,7 @@ use Rattle.station.specs.declared.state.PeripheralEvent.the-variants.{NoEvent, 
 use Rattle.peripheral.specs.declared.record.Peripheral.{Peripheral}
 use Rattle.peripheral.specs.Visit.{requestHeader, payloadOf}
 use Rattle.peripheral_set.specs.declared.PeripheralHandle.{PeripheralHandle}
+use Rattle.peripheral_set.specs.Marks.{noHandle}
 use Rattle.cycle.specs.declared.seen.Seen.{Seen}
 use Rattle.cycle.specs.declared.seen.Sent.{Sent}
 use Rattle.cycle.specs.declared.seen.Sent.the-variants.{Nobody, To}
@@ -59,9 +60,9 @@ pub record Filling (step : Step) (sent : Sent) (p : Peripheral) (u : Parameters)
 
 -- ---- the answer
 
--- 255 is no slot and no address
+-- the handle of the first balance that fell; none where none did
 abbrev pub handleOf : ℕ → ℕ → PeripheralHandle
-handleOf first address = cond (eqb first 255) (record { slot = 255; address = 255 }) (record { slot = first; address = address })
+handleOf first address = cond (eqb first 255) noHandle (record { slot = first; address = address })
 
 abbrev pub fellEvent : ℕ → PeripheralEvent
 fellEvent first = cond (eqb first 255) NoEvent WentOffline
@@ -80,7 +81,7 @@ refusedTurn n =
       «cycle_completed» = false;
       offline = 0;
       event = NoEvent;
-      handle = handleOf 255 255;
+      handle = noHandle;
       len = 0;
       transmission = NothingSent;
     }

@@ -16,10 +16,7 @@ pub struct ReplyAnswer {
 pub fn event_handle(event: PeripheralEvent, slot: u8, address: u8) -> PeripheralHandle
     ensures { λ r. ⌜ r ≡ eventHandle event slot address ⌝ }
 {
-    let none = PeripheralHandle {
-        slot: 255,
-        address: 255,
-    };
+    let none = PeripheralHandle::none();
     let here = PeripheralHandle {
         slot: slot,
         address: address,
@@ -40,10 +37,7 @@ impl ReplyAnswer {
     pub fn refused(refusal: u8) -> ReplyAnswer
         ensures { λ r. ⌜ r ≡ refusedReply refusal ⌝ }
     {
-        let handle = PeripheralHandle {
-            slot: 255,
-            address: 255,
-        };
+        let handle = PeripheralHandle::none();
         ReplyAnswer {
             refusal: refusal,
             cycle_completed: false,

@@ -40,7 +40,7 @@ pub struct TurnAnswer {
     pub transmission: Transmission,
 }
 
-// Something was sent to no balance.
+// What was sent, with the length of its payload.
 fn quiet(len: usize, transmission: Transmission) -> Filled
     ensures { λ r. ⌜ r ≡ (record { len = len; transmission = transmission }) ⌝ }
 {
@@ -94,10 +94,7 @@ fn handle_of(first: u8, address: u8) -> PeripheralHandle
     ensures { λ r. ⌜ r ≡ handleOf first address ⌝ }
 {
     if first == 255 {
-        return PeripheralHandle {
-            slot: 255,
-            address: 255,
-        };
+        return PeripheralHandle::none();
     }
     PeripheralHandle {
         slot: first,
@@ -109,7 +106,7 @@ impl TurnAnswer {
     pub fn refused(refusal: u8) -> TurnAnswer
         ensures { λ r. ⌜ r ≡ refusedTurn refusal ⌝ }
     {
-        let handle = handle_of(255, 255);
+        let handle = PeripheralHandle::none();
         TurnAnswer {
             refusal: refusal,
             cycle_completed: false,

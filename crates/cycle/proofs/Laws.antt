@@ -1,108 +1,105 @@
 -- The laws of refusals and of the state that the proofs here and in the crates above cite.
--- The idea: a refusal that is 0 has passed every check, and each check is the fact that it tests.
-use mathlib.Core.Path.{_≡_, refl, sym, ap, _∙_}
-use mathlib.Core.Bool.{Bool, true, false, not, _&&_, false≢true, cond}
-use Prim.Native.Nat.{ℕ, _+_, _≤_, _<_}
-use native.Mathlib.Omega.{arith}
-use lib.Dec.{ltb, leb, eqb}
-use borrow.Author.Tests.{ltb-true, leb-true, eqb-true, eqb-false, eq-eqb, ne-eqb}
-use Rattle.parts.proofs.Laws.{by-test}
-use Rattle.cycle.specs.declared.state.DpMasterState.{DpMasterState}
+-- The idea: a refusal that is 0 has passed every row, and a row that does not apply is the fact that it tests.
+use mathlib.Core.Path.{_≡_, refl, sym}
+use mathlib.Core.Bool.{Bool, true, false, not, _||_, false≢true, cond}
+use Prim.Native.Nat.{ℕ, _≤_, _<_}
+use lib.Dec.{ltb, eqb}
+use borrow.Author.Tests.{ltb-true, ltb-false, leb-false, eqb-true, not-true, not-false, eq-eqb, ne-eqb}
+use Rattle.parts.proofs.Laws.{and-left, and-right}
+use Rattle.refusals.proofs.Laws.{passed, passed-from}
 use Rattle.fdl.specs.declared.parameters.Parameters.{Parameters}
+use Rattle.fdl.specs.declared.telegram.Telegram.{Telegram}
 use Rattle.peripheral_set.specs.Marks.{slots}
-use Rattle.cycle.specs.declared.refusal.Used.{Used}
+use Rattle.cycle.specs.declared.state.DpMasterState.{DpMasterState}
+use Rattle.cycle.specs.declared.refusal.Lent.{Lent}
 use Rattle.cycle.specs.declared.refusal.Lengths.{Lengths}
-use Rattle.cycle.specs.State.{placed, closedFor}
-use Rattle.cycle.specs.Refusal.{unless, orElse, addressRefusal, lengthRefusal, roomRefusal}
+use Rattle.cycle.specs.State.{isOpen, closed, closedFor}
+use Rattle.cycle.specs.Refusal.{turnRows, turnRefusal, replyRows, replyRefusal, addressRefusal, lengthRows, lengthRefusal, addRows, addRefusal}
 
--- ---- a refusal that is 0
-
--- the check held; n is not 0
-pub passed : (ok : Bool) (n rest : ℕ) → (n ≡ 0 → ⊥) → unless ok n rest ≡ 0 → ok ≡ true
-passed true n rest h e = refl
-passed false n rest h e = absurd (h e)
-
-pub after : (ok : Bool) (n rest : ℕ) → (n ≡ 0 → ⊥) → unless ok n rest ≡ 0 → rest ≡ 0
-after true n rest h e = e
-after false n rest h e = absurd (h e)
-
-seven : _≡_ {A = ℕ} 7 0 → ⊥
-seven e = omega arith
+-- ---- the lengths of an add
 
 module _ (l : Lengths) (z : lengthRefusal l ≡ 0) where
   pub user-fits : l .user ≤ 237
   unfolding lengthRefusal
-  user-fits = leb-true (l .user) 237 (passed (leb (l .user) 237) 7 _ seven z)
-
-  after-user : unless (leb (l .config) 244) 7 (unless (leb (l .inputs) 244) 7 (unless (leb (l .outputs) 244) 7 (unless (leb (l .room) 238) 7 0))) ≡ 0
-  unfolding lengthRefusal
-  after-user = after (leb (l .user) 237) 7 _ seven z
+  user-fits = ltb-false _ _ (passed (lengthRows l) refl z 0)
 
   pub config-fits : l .config ≤ 244
-  config-fits = leb-true (l .config) 244 (passed (leb (l .config) 244) 7 _ seven after-user)
-
-  after-config : unless (leb (l .inputs) 244) 7 (unless (leb (l .outputs) 244) 7 (unless (leb (l .room) 238) 7 0)) ≡ 0
-  after-config = after (leb (l .config) 244) 7 _ seven after-user
+  unfolding lengthRefusal
+  config-fits = ltb-false _ _ (passed (lengthRows l) refl z 1)
 
   pub inputs-fit : l .inputs ≤ 244
-  inputs-fit = leb-true (l .inputs) 244 (passed (leb (l .inputs) 244) 7 _ seven after-config)
-
-  after-inputs : unless (leb (l .outputs) 244) 7 (unless (leb (l .room) 238) 7 0) ≡ 0
-  after-inputs = after (leb (l .inputs) 244) 7 _ seven after-config
+  unfolding lengthRefusal
+  inputs-fit = ltb-false _ _ (passed (lengthRows l) refl z 2)
 
   pub outputs-fit : l .outputs ≤ 244
-  outputs-fit = leb-true (l .outputs) 244 (passed (leb (l .outputs) 244) 7 _ seven after-inputs)
+  unfolding lengthRefusal
+  outputs-fit = ltb-false _ _ (passed (lengthRows l) refl z 3)
 
   pub room-fits : l .room ≤ 238
-  room-fits = leb-true (l .room) 238 (passed (leb (l .room) 238) 7 _ seven (after (leb (l .outputs) 244) 7 _ seven after-inputs))
+  unfolding lengthRefusal
+  room-fits = ltb-false _ _ (passed (lengthRows l) refl z 4)
 
--- ---- the ranges of an add that is not refused
+-- ---- an add that has passed its rows
 
-eight : _≡_ {A = ℕ} 8 0 → ⊥
-eight e = omega arith
+module _ (u : Parameters) (lent : Lent) (slot address : ℕ) (l : Lengths) (z : addRefusal u lent slot address l ≡ 0) where
+  pub lent-inputs : lent .inputs ≡ u .«input_pool»
+  unfolding addRefusal
+  lent-inputs = eqb-true _ _ (not-false _ (passed (addRows u lent slot address l) refl z 1))
 
-module _ (u : Parameters) (used : Used) (l : Lengths) (z : roomRefusal u used l ≡ 0) where
-  pub setup-room : used .setup + (l .user + l .config) ≤ u .«setup_pool»
-  unfolding roomRefusal
-  setup-room = leb-true _ _ (passed (leb (used .setup + (l .user + l .config)) (u .«setup_pool»)) 8 _ eight z)
+  pub add-slot : slot < slots
+  unfolding addRefusal
+  add-slot = leb-false slots slot (passed (addRows u lent slot address l) refl z 4)
 
-  after-setup : unless (leb (used .inputs + l .inputs) (u .«input_pool»)) 8 (unless (leb (used .outputs + l .outputs) (u .«output_pool»)) 8 (unless (leb (used .diags + l .room) (u .«diag_pool»)) 8 0)) ≡ 0
-  unfolding roomRefusal
-  after-setup = after (leb (used .setup + (l .user + l .config)) (u .«setup_pool»)) 8 _ eight z
+  pub add-address : addressRefusal u address ≡ 0
+  unfolding addRefusal addressRefusal
+  add-address = rw (passed (addRows u lent slot address l) refl z 5) refl
 
-  pub input-room : used .inputs + l .inputs ≤ u .«input_pool»
-  input-room = leb-true _ _ (passed (leb (used .inputs + l .inputs) (u .«input_pool»)) 8 _ eight after-setup)
+  pub add-lengths : lengthRefusal l ≡ 0
+  unfolding addRefusal lengthRefusal
+  add-lengths = passed-from (addRows u lent slot address l) refl z 6
 
-  after-inputs-room : unless (leb (used .outputs + l .outputs) (u .«output_pool»)) 8 (unless (leb (used .diags + l .room) (u .«diag_pool»)) 8 0) ≡ 0
-  after-inputs-room = after (leb (used .inputs + l .inputs) (u .«input_pool»)) 8 _ eight after-setup
+-- ---- a turn and a reply that have passed theirs
 
-  pub output-room : used .outputs + l .outputs ≤ u .«output_pool»
-  output-room = leb-true _ _ (passed (leb (used .outputs + l .outputs) (u .«output_pool»)) 8 _ eight after-inputs-room)
+pub turn-not-early : (u : Parameters) (s : DpMasterState) (time setup outputs payload : ℕ) → turnRefusal u s time setup outputs payload ≡ 0 → s .«last_turn» ≤ time
+unfolding turnRefusal
+turn-not-early u s time setup outputs payload z = ltb-false time (s .«last_turn») (passed (turnRows u s time setup outputs payload) refl z 3)
 
-  pub diag-room : used .diags + l .room ≤ u .«diag_pool»
-  diag-room = leb-true _ _ (passed (leb (used .diags + l .room) (u .«diag_pool»)) 8 _ eight (after (leb (used .outputs + l .outputs) (u .«output_pool»)) 8 _ eight after-inputs-room))
+neither : (a b : Bool) → (a || b) ≡ false → (a ≡ false) × (b ≡ false)
+neither true b e = absurd (false≢true (sym e))
+neither false b e = (refl, e)
 
--- ---- the first of two refusals
+module _ (u : Parameters) (s : DpMasterState) (asked address : ℕ) (t : Telegram) (payload inputs diags : ℕ) (z : replyRefusal u s asked address t payload inputs diags ≡ 0) where
+  pub reply-inputs : inputs ≡ u .«input_pool»
+  unfolding replyRefusal
+  reply-inputs = eqb-true _ _ (not-false _ (passed (replyRows u s asked address t payload inputs diags) refl z 0))
 
-pub or-first : (n rest : ℕ) → orElse n rest ≡ 0 → n ≡ 0
-or-first n rest e = by-test (eqb n 0) (λ t. eqb-true n 0 t) (λ t. rw t at e)
+  pub reply-diags : diags ≡ u .«diag_pool»
+  unfolding replyRefusal
+  reply-diags = eqb-true _ _ (not-false _ (passed (replyRows u s asked address t payload inputs diags) refl z 1))
 
-pub or-then : (n rest : ℕ) → orElse n rest ≡ 0 → rest ≡ 0
-or-then n rest e = rw (eq-eqb n 0 (or-first n rest e)) at e
+  is-open : isOpen s ≡ true
+  unfolding replyRefusal
+  is-open = not-false _ (neither (not (isOpen s)) (not (eqb address asked)) (passed (replyRows u s asked address t payload inputs diags) refl z 2) .0)
+
+  pub reply-open : eqb (s .«open_kind») 0 ≡ false
+  reply-open = not-true _ (and-left (not (eqb (s .«open_kind») 0)) (ltb (s .«open_slot») slots) is-open)
+
+  pub reply-slot : s .«open_slot» < slots
+  reply-slot = ltb-true _ _ (and-right (not (eqb (s .«open_kind») 0)) (ltb (s .«open_slot») slots) is-open)
 
 -- ---- a closed request
 
 module _ (slot : ℕ) (s : DpMasterState) where
-  pub closed-here : s .«open_slot» ≡ slot → placed (s .slot) (s .completed) 0 0 s ≡ closedFor slot s
+  pub closed-here : s .«open_slot» ≡ slot → closed s ≡ closedFor slot s
   closed-here e = by-eq (eqb (s .«open_slot») slot) (eq-eqb _ _ e)
     where
-      by-eq : (b : Bool) → b ≡ true → placed (s .slot) (s .completed) 0 0 s ≡ cond b (placed (s .slot) (s .completed) 0 0 s) s
+      by-eq : (b : Bool) → b ≡ true → closed s ≡ cond b (closed s) s
       by-eq true q = refl
       by-eq false q = absurd (false≢true q)
 
   pub closed-other : (s .«open_slot» ≡ slot → ⊥) → s ≡ closedFor slot s
   closed-other d = by-ne (eqb (s .«open_slot») slot) (ne-eqb _ _ d)
     where
-      by-ne : (b : Bool) → b ≡ false → s ≡ cond b (placed (s .slot) (s .completed) 0 0 s) s
+      by-ne : (b : Bool) → b ≡ false → s ≡ cond b (closed s) s
       by-ne true q = absurd (false≢true (sym q))
       by-ne false q = refl

@@ -35,7 +35,7 @@ abbrev pub nextIn : Sent → List Bool → ℕ → ℕ
 nextIn Nobody marks slot = nextAfter marks slot
 nextIn (To at k) marks slot = slots
 
--- a slot number as an index; one that is no slot's counts as the first
+-- a slot number as an index; one that is no slot's counts as the first, since no record may stop the unit (DECISIONS 27)
 abbrev pub indexOf : ℕ → ℕ
 indexOf slot = cond (ltb slot slots) slot 0
 

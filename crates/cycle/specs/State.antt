@@ -27,6 +27,10 @@ isClear Stop = false
 isClear Clear = true
 isClear Operate = false
 
+-- a request is open: its kind is not 0; a slot number that is no slot's counts as none (DECISIONS 27)
+abbrev pub isOpen : DpMasterState → Bool
+isOpen s = not (eqb (s .«open_kind») 0) && ltb (s .«open_slot») slots
+
 -- a fresh unit is in Stop, its place at the first slot, nothing open
 abbrev pub freshState : DpMasterState
 freshState =
@@ -59,9 +63,9 @@ entered o s =
 
 -- ---- what a turn does
 
--- step 2: not `high_prio_only`, and either none was sent since the state was last set, or now minus its time is at least 50 slot times
+-- step 2: not `high_prio_only`, and either none was sent since the state was last set, or the time since is at least 50 slot times
 unfoldable pub controlDue : ℕ → Bool → ℕ → DpMasterState → Bool
-controlDue now high slotTime s = cond high false (cond (s .controlled) (leb (50 * slotTime) (now - s .«last_control»)) true)
+controlDue time high slotTime s = cond high false (cond (s .controlled) (leb (50 * slotTime) (time - s .«last_control»)) true)
 
 -- steps 2 to 4
 abbrev pub runningOf : Bool → Bool → Step
@@ -80,54 +84,94 @@ startOf Control s = slots
 startOf Back s = slots
 startOf Visits s = s .slot
 
--- ---- what is left of the state
+-- ---- what is left of the state: the words, of which each changes one thing
 
--- an accepted turn records its time; control, place and open request as given
-abbrev pub turned : ℕ → ℕ → Bool → ℕ → Bool → ℕ → ℕ → DpMasterState → DpMasterState
-turned now control controlled slot completed openSlot openKind s =
+-- the time of an accepted turn
+abbrev pub timed : ℕ → DpMasterState → DpMasterState
+timed time s =
     record {
-      «last_turn» = now;
-      «last_control» = control;
-      slot = slot;
-      completed = completed;
-      «open_slot» = openSlot;
-      «open_kind» = openKind;
+      «last_turn» = time;
+      «last_control» = s .«last_control»;
+      slot = s .slot;
+      completed = s .completed;
+      «open_slot» = s .«open_slot»;
+      «open_kind» = s .«open_kind»;
       «has_turned» = true;
-      controlled = controlled;
+      controlled = s .controlled;
       operating = s .operating;
     }
 
--- step 4: the place is the slot that sent, whose request is open; or the first slot
-abbrev pub afterVisits : Sent → ℕ → DpMasterState → DpMasterState
-afterVisits Nobody now s = turned now (s .«last_control») (s .controlled) 0 false 0 0 s
-afterVisits (To slot k) now s = turned now (s .«last_control») (s .controlled) slot false slot (kindNumber k) s
+-- the time of the global control
+abbrev pub controlledAt : ℕ → DpMasterState → DpMasterState
+controlledAt time s =
+    record {
+      «last_turn» = s .«last_turn»;
+      «last_control» = time;
+      slot = s .slot;
+      completed = s .completed;
+      «open_slot» = s .«open_slot»;
+      «open_kind» = s .«open_kind»;
+      «has_turned» = s .«has_turned»;
+      controlled = true;
+      operating = s .operating;
+    }
 
--- an accepted turn closes any open request
-abbrev pub afterTurn : Step → Sent → ℕ → DpMasterState → DpMasterState
-afterTurn Halt sent now s = turned now (s .«last_control») (s .controlled) (s .slot) (s .completed) 0 0 s
-afterTurn Control sent now s = turned now now true (s .slot) (s .completed) 0 0 s
-afterTurn Back sent now s = turned now (s .«last_control») (s .controlled) 0 false 0 0 s
-afterTurn Visits sent now s = afterVisits sent now s
-
--- the place and the open request; all else stays
-abbrev pub placed : ℕ → Bool → ℕ → ℕ → DpMasterState → DpMasterState
-placed slot completed openSlot openKind s =
+-- the place, and whether the cycle is completed
+abbrev pub placeIs : ℕ → Bool → DpMasterState → DpMasterState
+placeIs slot completed s =
     record {
       «last_turn» = s .«last_turn»;
       «last_control» = s .«last_control»;
       slot = slot;
       completed = completed;
-      «open_slot» = openSlot;
-      «open_kind» = openKind;
+      «open_slot» = s .«open_slot»;
+      «open_kind» = s .«open_kind»;
       «has_turned» = s .«has_turned»;
       controlled = s .controlled;
       operating = s .operating;
     }
 
+-- the open request, to a slot and by the number of its kind
+abbrev pub opened : ℕ → ℕ → DpMasterState → DpMasterState
+opened slot kind s =
+    record {
+      «last_turn» = s .«last_turn»;
+      «last_control» = s .«last_control»;
+      slot = s .slot;
+      completed = s .completed;
+      «open_slot» = slot;
+      «open_kind» = kind;
+      «has_turned» = s .«has_turned»;
+      controlled = s .controlled;
+      operating = s .operating;
+    }
+
+-- no request is open: slot 0 and kind 0 (DECISIONS 26)
+abbrev pub closed : DpMasterState → DpMasterState
+closed s = opened 0 0 s
+
+-- ---- what is left of the state after each call
+
+-- step 4: the place is the slot that sent, whose request is open; or the first slot
+abbrev pub afterVisits : Sent → DpMasterState → DpMasterState
+afterVisits Nobody s = placeIs 0 false s
+afterVisits (To slot k) s = opened slot (kindNumber k) (placeIs slot false s)
+
+-- what each step leaves besides
+abbrev pub afterStep : Step → Sent → ℕ → DpMasterState → DpMasterState
+afterStep Halt sent time s = s
+afterStep Control sent time s = controlledAt time s
+afterStep Back sent time s = placeIs 0 false s
+afterStep Visits sent time s = afterVisits sent s
+
+-- an accepted turn records its time and closes any open request
+abbrev pub afterTurn : Step → Sent → ℕ → DpMasterState → DpMasterState
+afterTurn step sent time s = afterStep step sent time (closed (timed time s))
+
 -- an accepted reply closes the request; the place moves to the next occupied slot, with none the cycle is completed
 abbrev pub answered : ℕ → DpMasterState → DpMasterState
-answered next s = cond (ltb next slots) (placed next false 0 0 s) (placed 0 true 0 0 s)
+answered next s = cond (ltb next slots) (placeIs next false (closed s)) (placeIs 0 true (closed s))
 
 -- `reset_address` closes that balance's request
 abbrev pub closedFor : ℕ → DpMasterState → DpMasterState
-closedFor slot s = cond (eqb (s .«open_slot») slot) (placed (s .slot) (s .completed) 0 0 s) s
+closedFor slot s = cond (eqb (s .«open_slot») slot) (closed s) s

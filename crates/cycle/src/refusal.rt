@@ -1,23 +1,15 @@
-// Which call is refused, and with which number: the checks of each call in the order of document 01's table.
+// Which call is refused, and with which number: the rows of each call, in the order of document 01's table.
 ghost use mathlib.Core.Path.{_≡_};
-ghost use Rattle.cycle.specs.Refusal.{payloadMin, turnRefusal, replyRefusal, addressRefusal, lengthRefusal, roomRefusal, addRefusal};
+ghost use Rattle.cycle.specs.Refusal.{turnRefusal, replyRefusal, addRefusal};
 use crate::state::DpMasterState;
-use fdl::parameters::MAX_ADDRESS;
 use fdl::parameters::Parameters;
 use fdl::telegram::Telegram;
 use peripheral_set::SLOTS;
-
-// The shortest payload buffer. The definitions say it again.
-pub const PAYLOAD_MIN: usize = 244;
-
-// The used part of each pool.
-#[repr(C)]
-pub struct Used {
-    pub setup: u16,
-    pub inputs: u16,
-    pub outputs: u16,
-    pub diags: u16,
-}
+use refusals::DONE;
+use refusals::MAX_CONFIG;
+use refusals::MAX_IMAGE;
+use refusals::MAX_ROOM;
+use refusals::MAX_USER;
 
 // The lengths of the four lent pools.
 pub struct Lent {
@@ -36,33 +28,24 @@ pub struct Lengths {
     pub room: usize,
 }
 
-// A turn: 2, then 3.
+// A turn: what is lent, and the time.
 pub fn turn_refusal(
     u: Parameters,
     s: DpMasterState,
-    now: u64,
+    time: u64,
     setup: usize,
     outputs: usize,
     payload: usize,
 ) -> u8
-    ensures { λ r. ⌜ r ≡ turnRefusal u s now setup outputs payload ⌝ }
+    ensures { λ r. ⌜ r ≡ turnRefusal u s time setup outputs payload ⌝ }
 {
-    if setup != parts::widen16(u.setup_pool) {
-        return 2;
-    }
-    if outputs != parts::widen16(u.output_pool) {
-        return 2;
-    }
-    if payload < PAYLOAD_MIN {
-        return 2;
-    }
-    if now < s.last_turn {
-        return 3;
-    }
-    0
+    let n = refusals::lent(DONE, setup, u.setup_pool);
+    let n = refusals::lent(n, outputs, u.output_pool);
+    let n = refusals::buffer(n, payload);
+    refusals::turn(n, s.last_turn, time)
 }
 
-// A reply: 2, then 9, then 10. `asked` is the address of the balance with the open request.
+// A reply: what is lent, the open request, and the telegram. `asked` is the address of the balance with the open request.
 pub fn reply_refusal(
     u: Parameters,
     s: DpMasterState,
@@ -75,128 +58,25 @@ pub fn reply_refusal(
 ) -> u8
     ensures { λ r. ⌜ r ≡ replyRefusal u s asked address telegram payload inputs diags ⌝ }
 {
-    if inputs != parts::widen16(u.input_pool) {
-        return 2;
-    }
-    if diags != parts::widen16(u.diag_pool) {
-        return 2;
-    }
-    if s.open_kind == 0 {
-        return 9;
-    }
-    if SLOTS <= parts::widen8(s.open_slot) {
-        return 9;
-    }
-    if address != asked {
-        return 9;
-    }
-    if telegram.is_usable(payload) {
-        return 0;
-    }
-    10
+    let n = refusals::lent(DONE, inputs, u.input_pool);
+    let n = refusals::lent(n, diags, u.diag_pool);
+    let n = refusals::asked(n, s.is_open(), address, asked);
+    refusals::usable(n, telegram.is_usable(payload))
 }
 
-// An address: 6 where it is above the highest or the master's own.
-pub fn address_refusal(u: Parameters, address: u8) -> u8
-    ensures { λ r. ⌜ r ≡ addressRefusal u address ⌝ }
+// An add, before its ranges have a place: what is lent, the table, the address and the lengths. `slot` is the first empty slot, SLOTS where there is none.
+pub fn add_refusal(u: Parameters, lent: Lent, slot: usize, address: u8, l: Lengths) -> u8
+    ensures { λ r. ⌜ r ≡ addRefusal u lent slot address l ⌝ }
 {
-    if MAX_ADDRESS < address {
-        return 6;
-    }
-    if address == u.address {
-        return 6;
-    }
-    0
-}
-
-// The lengths of an add: 7 where one is above its limit.
-fn length_refusal(l: Lengths) -> u8
-    ensures { λ r. ⌜ r ≡ lengthRefusal l ⌝ }
-{
-    if 237 < l.user {
-        return 7;
-    }
-    if 244 < l.config {
-        return 7;
-    }
-    if 244 < l.inputs {
-        return 7;
-    }
-    if 244 < l.outputs {
-        return 7;
-    }
-    if 238 < l.room {
-        return 7;
-    }
-    0
-}
-
-// The ranges of an add: 8 where one passes its pool's end.
-fn room_refusal(u: Parameters, used: Used, l: Lengths) -> u8
-    requires { ⌜ lengthRefusal l ≡ 0 ⌝ }
-    ensures { λ r. ⌜ r ≡ roomRefusal u used l ⌝ }
-{
-    if parts::inside(
-        parts::widen16(used.setup),
-        l.user + l.config,
-        parts::widen16(u.setup_pool),
-    ) {
-        if parts::inside(
-            parts::widen16(used.inputs),
-            l.inputs,
-            parts::widen16(u.input_pool),
-        ) {
-            if parts::inside(
-                parts::widen16(used.outputs),
-                l.outputs,
-                parts::widen16(u.output_pool),
-            ) {
-                if parts::inside(
-                    parts::widen16(used.diags),
-                    l.room,
-                    parts::widen16(u.diag_pool),
-                ) {
-                    return 0;
-                }
-            }
-        }
-    }
-    8
-}
-
-// An add: 2, 5, 6, 7, 8. `slot` is the first empty slot, SLOTS where there is none.
-pub fn add_refusal(
-    u: Parameters,
-    used: Used,
-    lent: Lent,
-    slot: usize,
-    address: u8,
-    l: Lengths,
-) -> u8
-    ensures { λ r. ⌜ r ≡ addRefusal u used lent slot address l ⌝ }
-{
-    if lent.setup != parts::widen16(u.setup_pool) {
-        return 2;
-    }
-    if lent.inputs != parts::widen16(u.input_pool) {
-        return 2;
-    }
-    if lent.outputs != parts::widen16(u.output_pool) {
-        return 2;
-    }
-    if lent.diags != parts::widen16(u.diag_pool) {
-        return 2;
-    }
-    if SLOTS <= slot {
-        return 5;
-    }
-    let bad = address_refusal(u, address);
-    if bad != 0 {
-        return bad;
-    }
-    let long = length_refusal(l);
-    if long != 0 {
-        return long;
-    }
-    room_refusal(u, used, l)
+    let n = refusals::lent(DONE, lent.setup, u.setup_pool);
+    let n = refusals::lent(n, lent.inputs, u.input_pool);
+    let n = refusals::lent(n, lent.outputs, u.output_pool);
+    let n = refusals::lent(n, lent.diags, u.diag_pool);
+    let n = refusals::full(n, slot, SLOTS);
+    let n = refusals::address(n, address, u.address);
+    let n = refusals::length(n, MAX_USER, l.user);
+    let n = refusals::length(n, MAX_CONFIG, l.config);
+    let n = refusals::length(n, MAX_IMAGE, l.inputs);
+    let n = refusals::length(n, MAX_IMAGE, l.outputs);
+    refusals::length(n, MAX_ROOM, l.room)
 }

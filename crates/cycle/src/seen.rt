@@ -30,7 +30,7 @@ pub fn bit(slot: usize) -> Mask
     if slot < SLOTS { (1 as Mask) << slot } else { 0 }
 }
 
-// A slot number as an index; one that is no slot's counts as the first.
+// A slot number as an index; one that is no slot's counts as the first. DECISIONS 27
 pub fn index(slot: u8) -> usize
     ensures { λ r. ⌜ (r ≡ indexOf slot) × (r < slots) ⌝ }
 {

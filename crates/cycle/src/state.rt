@@ -1,7 +1,7 @@
 // The operating state, the cycle, and when the global control is due.
 ghost use mathlib.Core.Path.{_≡_};
 ghost use Prim.Native.Nat.{_-_, _<_};
-ghost use Rattle.cycle.specs.State.{operatingNumber, operatingOf, freshState, entered, isClear, controlDue, runningOf, stepOf, startOf, afterTurn, answered, closedFor};
+ghost use Rattle.cycle.specs.State.{operatingNumber, operatingOf, freshState, entered, isOpen, isClear, controlDue, runningOf, stepOf, startOf, afterTurn, answered, closedFor};
 use crate::seen::Seen;
 use crate::seen::Sent;
 use peripheral_set::SLOTS;
@@ -58,10 +58,10 @@ impl OperatingState {
 }
 
 // How long ago; 0 where that lies ahead.
-fn since(now: u64, then: u64) -> u64
-    ensures { λ r. ⌜ r ≡ now - then ⌝ }
+fn since(time: u64, then: u64) -> u64
+    ensures { λ r. ⌜ r ≡ time - then ⌝ }
 {
-    if then <= now { now - then } else { 0 }
+    if then <= time { time - then } else { 0 }
 }
 
 fn wide(x: u32) -> u64
@@ -99,6 +99,16 @@ impl DpMasterState {
         s
     }
 
+    // Whether a request is open. A slot number that is no slot's counts as none: DECISIONS 27
+    pub fn is_open(self) -> bool
+        ensures { λ r. ⌜ r ≡ isOpen self ⌝ }
+    {
+        if self.open_kind == 0 {
+            return false;
+        }
+        parts::widen8(self.open_slot) < SLOTS
+    }
+
     // Whether outputs go out as zeros.
     pub fn is_clear(self) -> bool
         ensures { λ r. ⌜ r ≡ isClear (operatingOf (self .operating)) ⌝ }
@@ -112,24 +122,24 @@ impl DpMasterState {
     }
 
     // Whether the global control is due.
-    pub fn control_due(self, now: u64, high_prio_only: bool, slot_time: u32) -> bool
-        ensures { λ r. ⌜ r ≡ controlDue now «high_prio_only» «slot_time» self ⌝ }
+    pub fn control_due(self, time: u64, high_prio_only: bool, slot_time: u32) -> bool
+        ensures { λ r. ⌜ r ≡ controlDue time «high_prio_only» «slot_time» self ⌝ }
     {
         if high_prio_only {
             return false;
         }
         if self.controlled {
-            return 50 * wide(slot_time) <= since(now, self.last_control);
+            return 50 * wide(slot_time) <= since(time, self.last_control);
         }
         true
     }
 
-    // What a turn does now.
-    pub fn step(self, now: u64, high_prio_only: bool, slot_time: u32) -> Step
-        ensures { λ r. ⌜ r ≡ stepOf (operatingOf (self .operating)) (controlDue now «high_prio_only» «slot_time» self) (self .completed) ⌝ }
+    // What a turn does.
+    pub fn step(self, time: u64, high_prio_only: bool, slot_time: u32) -> Step
+        ensures { λ r. ⌜ r ≡ stepOf (operatingOf (self .operating)) (controlDue time «high_prio_only» «slot_time» self) (self .completed) ⌝ }
     {
         let operating = OperatingState::of(self.operating);
-        let due = self.control_due(now, high_prio_only, slot_time);
+        let due = self.control_due(time, high_prio_only, slot_time);
         match operating {
             OperatingState::Stop => Step::Halt,
             OperatingState::Clear => self.running(due),
@@ -162,19 +172,19 @@ impl DpMasterState {
         }
     }
 
-    // After an accepted turn.
-    pub fn after_turn(self, step: Step, sent: Sent, now: u64) -> DpMasterState
-        ensures { λ r. ⌜ r ≡ afterTurn step sent now self ⌝ }
+    // After an accepted turn. A closed request is (slot 0, kind 0): DECISIONS 26
+    pub fn after_turn(self, step: Step, sent: Sent, time: u64) -> DpMasterState
+        ensures { λ r. ⌜ r ≡ afterTurn step sent time self ⌝ }
     {
         let mut s = self;
-        s.last_turn = now;
+        s.last_turn = time;
         s.has_turned = true;
         s.open_slot = 0;
         s.open_kind = 0;
         match step {
             Step::Halt => s,
             Step::Control => {
-                s.last_control = now;
+                s.last_control = time;
                 s.controlled = true;
                 s
             }

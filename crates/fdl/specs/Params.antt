@@ -1,35 +1,27 @@
 -- The parameters of a unit: their ranges, what a record holds of them, and the lowest values.
 -- From 01, "The unit and its sizes" (ranges) and "Refusal numbers" (No. 1, and what a refused creation returns).
 use Prim.Native.Nat.{ℕ}
-use mathlib.Core.Bool.{Bool, false, _&&_, cond}
-use lib.Dec.{leb}
+use mathlib.Core.Bool.{Bool, false, cond}
+use mathlib.Core.List.{List, [], _∷_}
+use Rattle.refusals.specs.Table.{Row, maxAddress, maxRetries, maxSlotTime, maxPool, parameterRow, firstOf}
 use Rattle.fdl.specs.declared.parameters.Parameters.{Parameters}
 
--- the highest address of a station
-abbrev pub maxAddress : ℕ
-maxAddress = 125
+-- a row for each parameter that has a limit; min Tsdr and the watchdog factors are bytes, of which each is in range
+abbrev pub creationRows : Parameters → List Row
+creationRows p =
+    parameterRow 0 maxAddress (p .address)
+    ∷ parameterRow 0 maxRetries (p .«max_retry_limit»)
+    ∷ parameterRow 1 maxSlotTime (p .«slot_time»)
+    ∷ parameterRow 0 maxPool (p .«setup_pool»)
+    ∷ parameterRow 0 maxPool (p .«input_pool»)
+    ∷ parameterRow 0 maxPool (p .«output_pool»)
+    ∷ parameterRow 0 maxPool (p .«diag_pool»)
+    ∷ []
 
--- the longest pool
-abbrev pub maxPool : ℕ
-maxPool = 16384
+unfoldable pub creationRefusal : Parameters → ℕ
+creationRefusal p = firstOf (creationRows p)
 
--- min Tsdr and the watchdog factors are bytes: each of 0..255 is in range
-unfoldable pub inRange : Parameters → Bool
-inRange p =
-    leb (p .address) maxAddress
-    && leb (p .«max_retry_limit») 254
-    && leb 1 (p .«slot_time»)
-    && leb (p .«slot_time») 1000000
-    && leb (p .«setup_pool») maxPool
-    && leb (p .«input_pool») maxPool
-    && leb (p .«output_pool») maxPool
-    && leb (p .«diag_pool») maxPool
-
--- 1: a parameter outside its range
-abbrev pub creationRefusal : Parameters → ℕ
-creationRefusal p = cond (inRange p) 0 1
-
--- what a unit created with p holds: with the watchdog off the factors are 0
+-- what a unit created with p holds: with the watchdog off the factors are 0 (DECISIONS 9)
 unfoldable pub inForce : Parameters → Parameters
 inForce p =
     record {

@@ -2,11 +2,11 @@
 ghost use mathlib.Core.Path.{_≡_};
 ghost use mathlib.Core.Bool.{cond};
 ghost use Rattle.fdl.specs.Params.{creationRefusal, inForce, lowest};
-
-// The highest address of a station, and the longest pool. The definitions say them again.
-pub const MAX_ADDRESS: u8 = 125;
-
-pub const MAX_POOL: u16 = 16384;
+use refusals::DONE;
+use refusals::MAX_ADDRESS;
+use refusals::MAX_POOL;
+use refusals::MAX_RETRIES;
+use refusals::MAX_SLOT_TIME;
 
 #[repr(C)]
 pub struct Parameters {
@@ -31,38 +31,20 @@ fn factor(watchdog: bool, f: u8) -> u8
 }
 
 impl Parameters {
-    // 1 where one of them is outside its range, else 0.
+    // A row of the table for each that has a limit; min Tsdr and the watchdog factors are bytes, of which each is in range.
     pub fn refusal(self) -> u8
         ensures { λ r. ⌜ r ≡ creationRefusal self ⌝ }
     {
-        if MAX_ADDRESS < self.address {
-            return 1;
-        }
-        if 254 < self.max_retry_limit {
-            return 1;
-        }
-        if self.slot_time < 1 {
-            return 1;
-        }
-        if 1000000 < self.slot_time {
-            return 1;
-        }
-        if MAX_POOL < self.setup_pool {
-            return 1;
-        }
-        if MAX_POOL < self.input_pool {
-            return 1;
-        }
-        if MAX_POOL < self.output_pool {
-            return 1;
-        }
-        if MAX_POOL < self.diag_pool {
-            return 1;
-        }
-        0
+        let n = refusals::parameter(DONE, 0, MAX_ADDRESS as u32, self.address as u32);
+        let n = refusals::parameter(n, 0, MAX_RETRIES, self.max_retry_limit as u32);
+        let n = refusals::parameter(n, 1, MAX_SLOT_TIME, self.slot_time);
+        let n = refusals::parameter(n, 0, MAX_POOL, self.setup_pool as u32);
+        let n = refusals::parameter(n, 0, MAX_POOL, self.input_pool as u32);
+        let n = refusals::parameter(n, 0, MAX_POOL, self.output_pool as u32);
+        refusals::parameter(n, 0, MAX_POOL, self.diag_pool as u32)
     }
 
-    // As a record holds them: with the watchdog off its factors are 0.
+    // As a record holds them: with the watchdog off its factors are 0. DECISIONS 9
     pub fn in_force(self) -> Parameters
         ensures { λ r. ⌜ r ≡ inForce self ⌝ }
     {

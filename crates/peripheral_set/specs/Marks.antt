@@ -5,11 +5,16 @@ use mathlib.Core.Bool.{Bool, true, false, not, _&&_, cond}
 use mathlib.Core.List.{List, [], _∷_}
 use lib.ListN.{getD}
 use lib.Dec.{ltb}
+use Rattle.refusals.specs.Table.{handleRow, firstOf}
 use Rattle.peripheral_set.specs.declared.PeripheralHandle.{PeripheralHandle}
 
 -- the number of slots
 abbrev pub slots : ℕ
 slots = 32
+
+-- no slot and no address: what stands for a handle where there is none (DECISIONS 10)
+abbrev pub noHandle : PeripheralHandle
+noHandle = record { slot = 255; address = 255 }
 
 -- a mark is the wanted one
 abbrev pub sameMark : Bool → Bool → Bool
@@ -21,15 +26,15 @@ unfoldable pub searchFrom : ℕ → Bool → ℕ → List Bool → ℕ → ℕ
 searchFrom none want zero marks i = none
 searchFrom none want (suc n) marks i = cond (sameMark want (getD marks i false)) i (searchFrom none want n marks (i + 1))
 
--- adding takes the first empty slot
+-- the first empty slot, which adding takes; `slots` where all are occupied
 abbrev pub firstEmpty : List Bool → ℕ
 firstEmpty marks = searchFrom slots false slots marks 0
 
--- the occupied slot at a place or after it
+-- the first occupied slot from a place on; `slots` where there is none
 abbrev pub atOrAfter : List Bool → ℕ → ℕ
 atOrAfter marks place = searchFrom slots true (slots - place) marks place
 
--- the next occupied slot after a place
+-- the first occupied slot after a place; `slots` where there is none
 abbrev pub nextAfter : List Bool → ℕ → ℕ
 nextAfter marks place = searchFrom slots true (slots - (place + 1)) marks (place + 1)
 
@@ -45,6 +50,6 @@ listedFrom (suc n) marks i = let rest : List ℕ = listedFrom n marks (i + 1) in
 abbrev pub listed : List Bool → List ℕ
 listed marks = listedFrom slots marks 0
 
--- 4: the handle's slot is empty, or above the last
+-- the handle's slot is empty, or above the last
 abbrev pub handleRefusal : PeripheralHandle → List Bool → ℕ
-handleRefusal h marks = cond (isOccupied marks (h .slot)) 0 4
+handleRefusal h marks = firstOf (handleRow (isOccupied marks (h .slot)) ∷ [])

@@ -1,11 +1,11 @@
 // Which slots of the table are occupied: the first empty one, the next occupied one, and the listing.
-// Nothing above reads the marks, so that another way to find a slot changes nothing there.
+// No code above looks a mark up itself, so that another way to find a slot changes nothing there.
 ghost use mathlib.Core.Path.{_≡_};
 ghost use mathlib.Core.Bool.{true, false};
 ghost use mathlib.Core.List.{List};
 ghost use lib.ListN.{length, getD};
 ghost use Prim.Native.Nat.{_-_};
-ghost use Rattle.peripheral_set.specs.Marks.{slots, sameMark, searchFrom, firstEmpty, atOrAfter, nextAfter, isOccupied, listed, handleRefusal};
+ghost use Rattle.peripheral_set.specs.Marks.{slots, sameMark, searchFrom, noHandle, firstEmpty, atOrAfter, nextAfter, isOccupied, listed, handleRefusal};
 
 // The number of slots. The definitions say it again, as `slots`.
 pub const SLOTS: usize = 32;
@@ -114,13 +114,20 @@ pub fn nth(marks: [bool; SLOTS], n: usize) -> usize
 }
 
 impl PeripheralHandle {
-    // 4 where the handle's slot is empty or there is none, else 0.
+    // No slot and no address: every use of it is refused as 4. DECISIONS 10
+    pub fn none() -> PeripheralHandle
+        ensures { λ r. ⌜ r ≡ noHandle ⌝ }
+    {
+        PeripheralHandle {
+            slot: 255,
+            address: 255,
+        }
+    }
+
+    // Its row of the table: the slot is empty, or there is none.
     pub fn refusal(self, marks: [bool; SLOTS]) -> u8
         ensures { λ r. ⌜ r ≡ handleRefusal self marks ⌝ }
     {
-        if is_occupied(marks, parts::widen8(self.slot)) {
-            return 0;
-        }
-        4
+        refusals::handle(refusals::DONE, is_occupied(marks, parts::widen8(self.slot)))
     }
 }

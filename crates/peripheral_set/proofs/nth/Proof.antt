@@ -25,7 +25,11 @@ array-read-if1 : tie.Need-array-read-if1 Inv-loop μ-loop
 array-read-if1 c = search needs
 
 returns : tie.Need-returns Inv-loop μ-loop
-returns c = let a = c .before .before .before .before .args in let l = c .before .before .before .loop in sym (ap (λ (x : List ℕ). getD x (l .left) slots) (listed-here 0 true slots (a .t1) (l .i) (c .before .before .loop-test .taken) (c .before .if1 .taken)) ∙ rw (c .if2 .taken) refl) ∙ l .inv
+returns c =
+    let at-loop-test = c .before .before in
+    let at-loop = at-loop-test .before in
+    let at-start = at-loop .before in
+    let a = at-start .args in let l = at-loop .loop in sym (ap (λ (x : List ℕ). getD x (l .left) slots) (listed-here 0 true slots (a .t1) (l .i) (at-loop-test .loop-test .taken) (c .before .if1 .taken)) ∙ rw (c .if2 .taken) refl) ∙ l .inv
 
 sub-left : tie.Need-sub-left Inv-loop μ-loop
 sub-left c = omega arith

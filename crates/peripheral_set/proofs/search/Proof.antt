@@ -24,7 +24,11 @@ same-requires : tie.Need-same-requires Inv-loop μ-loop
 same-requires c κs = search needs
 
 returns : tie.Need-returns Inv-loop μ-loop
-returns c = let a = c .before .before .before .before .args in let l = c .before .before .before .loop in sym (search-here slots (a .want) slots (a .t1) (l .i) (c .before .before .loop-test .taken) (sym (c .before .same .ensures) ∙ c .if1 .taken)) ∙ l .inv
+returns c =
+    let at-loop-test = c .before .before in
+    let at-loop = at-loop-test .before in
+    let at-start = at-loop .before in
+    let a = at-start .args in let l = at-loop .loop in sym (search-here slots (a .want) slots (a .t1) (l .i) (at-loop-test .loop-test .taken) (sym (c .before .same .ensures) ∙ c .if1 .taken)) ∙ l .inv
 
 add-i : tie.Need-add-i Inv-loop μ-loop
 add-i c = omega arith
@@ -33,7 +37,11 @@ loop-less : tie.Need-loop-less Inv-loop μ-loop
 loop-less c = omega arith
 
 loop-again : tie.Need-loop-again Inv-loop μ-loop
-loop-again c = let a = c .before .before .before .before .args in let l = c .before .before .before .loop in sym (search-on slots (a .want) slots (a .t1) (l .i) (c .before .before .loop-test .taken) (sym (c .before .same .ensures) ∙ c .if1 .left)) ∙ l .inv
+loop-again c =
+    let at-loop-test = c .before .before in
+    let at-loop = at-loop-test .before in
+    let at-start = at-loop .before in
+    let a = at-start .args in let l = at-loop .loop in sym (search-on slots (a .want) slots (a .t1) (l .i) (at-loop-test .loop-test .taken) (sym (c .before .same .ensures) ∙ c .if1 .left)) ∙ l .inv
 
 returns-2 : tie.Need-returns-2 Inv-loop μ-loop
 returns-2 c = let a = c .before .before .args in let l = c .before .loop in sym (search-none slots (a .want) slots (a .t1) (l .i) (c .loop-test .left)) ∙ l .inv

@@ -3,6 +3,9 @@ use borrow.Author.Needs.{needs}
 use Rattle.answers.proofs.reply.event_handle.Statement.{statement}
 use Rattle.answers.proofs.reply.event_handle.Tie as tie
 
+none-requires : tie.Need-none-requires
+none-requires c κs = search needs
+
 enum-told : tie.Need-enum-told
 enum-told c = search needs
 
@@ -29,7 +32,7 @@ enum-told-8 c = search needs
 
 returns : tie.Need-returns
 returns c =
-    rw (c .enum-told .given .1)
+    rw (c .enum-told .given .1, c .before .before .none .ensures)
 
 returns-2 : tie.Need-returns-2
 returns-2 c =
@@ -63,6 +66,7 @@ pub event-handle-spec : {M : Type 1} → statement M
 event-handle-spec =
     tie.close
     (tie.spec
+    none-requires
     enum-told
     enum-told-2
     enum-told-3

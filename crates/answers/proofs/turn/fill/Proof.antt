@@ -63,7 +63,10 @@ same-length c = search needs
 
 returns-3 : tie.Need-returns-3
 returns-3 c =
-    let a = c .before .before .before .before .before .before .before .before .before .before .before .args in rw (c .before .before .before .before .before .before .enum-told3 .given .1) (filled-by _ (a .sent) (a .p) (a .u) _ (a .buf .now) _ (c .before .before .before .before .write-control .result) (c .quiet3 .result) (c .before .before .before .before .write-control .ensures) (rw (c .before .control-header .ensures) at (c .quiet3 .ensures)))
+    let at-write-control = c .before .before .before .before in
+    let at-enum-told3 = at-write-control .before .before in
+    let at-start = at-enum-told3 .before .before .before .before .before in
+    let a = at-start .args in rw (at-enum-told3 .enum-told3 .given .1) (filled-by _ (a .sent) (a .p) (a .u) _ (a .buf .now) _ (at-write-control .write-control .result) (c .quiet3 .result) (at-write-control .write-control .ensures) (rw (c .before .control-header .ensures) at (c .quiet3 .ensures)))
 
 returns-4 : tie.Need-returns-4
 returns-4 c =
@@ -74,7 +77,12 @@ same-length-2 c = search needs
 
 returns-5 : tie.Need-returns-5
 returns-5 c =
-    let a = c .before .before .before .before .before .before .before .before .before .before .before .before .before .before .args in rw (c .before .before .before .before .before .before .before .before .before .enum-told4 .given .1, c .before .before .before .before .before .before .before .sent .given .1) (filled-by _ _ (a .p) (a .u) _ (a .buf .now) _ (c .before .before .before .write-payload .result) (c .quiet5 .result) (c .before .before .before .write-payload .ensures) (rw (c .before .before .before .before .before .header .ensures) at (c .quiet5 .ensures)))
+    let at-write-payload = c .before .before .before in
+    let at-header = at-write-payload .before .before in
+    let at-sent = at-header .before .before in
+    let at-enum-told4 = at-sent .before .before in
+    let at-start = at-enum-told4 .before .before .before .before .before in
+    let a = at-start .args in rw (at-enum-told4 .enum-told4 .given .1, at-sent .sent .given .1) (filled-by _ _ (a .p) (a .u) _ (a .buf .now) _ (at-write-payload .write-payload .result) (c .quiet5 .result) (at-write-payload .write-payload .ensures) (rw (at-header .header .ensures) at (c .quiet5 .ensures)))
 
 pub fill-spec : {M : Type 1} → statement M
 fill-spec =

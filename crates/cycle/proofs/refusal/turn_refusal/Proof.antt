@@ -1,43 +1,27 @@
--- `turn_refusal` meets its contract: each test is a line of the definition.
-use mathlib.Core.Path.{sym, _∙_}
-use borrow.Author.Tests.{eq-eqb, ne-eqb, le-leb, lt-leb}
-use Rattle.cycle.specs.Refusal.{turnRefusal}
+-- `turn_refusal` meets its contract: its rows in turn.
+use mathlib.Core.Path.{refl}
+use Rattle.refusals.proofs.Laws.{in-turn}
+use Rattle.cycle.specs.Refusal.{turnRows, turnRefusal}
 use borrow.Author.Needs.{needs}
 use Rattle.cycle.proofs.refusal.turn_refusal.Statement.{statement}
 use Rattle.cycle.proofs.refusal.turn_refusal.Tie as tie
 
-widen16-requires : tie.Need-widen16-requires
-widen16-requires c κs = search needs
+lent-requires : tie.Need-lent-requires
+lent-requires c κs = search needs
+
+lent-requires-2 : tie.Need-lent-requires-2
+lent-requires-2 c κs = search needs
+
+buffer-requires : tie.Need-buffer-requires
+buffer-requires c κs = search needs
+
+turn-requires : tie.Need-turn-requires
+turn-requires c κs = search needs
 
 returns : tie.Need-returns
 unfolding turnRefusal
-returns c =
-    simp (ne-eqb _ _ (λ e. c .if1 .taken (e ∙ sym (c .before .widen16 .ensures .0))))
-
-widen16-requires-2 : tie.Need-widen16-requires-2
-widen16-requires-2 c κs = search needs
-
-returns-2 : tie.Need-returns-2
-unfolding turnRefusal
-returns-2 c =
-    simp (eq-eqb _ _ (c .before .before .if1 .left ∙ c .before .before .before .widen16 .ensures .0), ne-eqb _ _ (λ e. c .if2 .taken (e ∙ sym (c .before .widen162 .ensures .0))))
-
-returns-3 : tie.Need-returns-3
-unfolding turnRefusal
-returns-3 c =
-    simp (eq-eqb _ _ (c .before .before .before .if1 .left ∙ c .before .before .before .before .widen16 .ensures .0), eq-eqb _ _ (c .before .if2 .left ∙ c .before .before .widen162 .ensures .0), lt-leb _ _ (c .if3 .taken))
-
-returns-4 : tie.Need-returns-4
-unfolding turnRefusal
-returns-4 c =
-    simp (eq-eqb _ _ (c .before .before .before .before .before .if1 .left ∙ c .before .before .before .before .before .before .widen16 .ensures .0), eq-eqb _ _ (c .before .before .before .if2 .left ∙ c .before .before .before .before .widen162 .ensures .0), le-leb _ _ (c .before .before .if3 .left), lt-leb _ _ (c .if4 .taken))
-
-returns-5 : tie.Need-returns-5
-unfolding turnRefusal
-returns-5 c =
-    simp (eq-eqb _ _ (c .before .before .before .before .before .if1 .left ∙ c .before .before .before .before .before .before .widen16 .ensures .0), eq-eqb _ _ (c .before .before .before .if2 .left ∙ c .before .before .before .before .widen162 .ensures .0), le-leb _ _ (c .before .before .if3 .left), le-leb _ _ (c .if4 .left))
+returns c = let a = c .before .before .before .before .args in cc (in-turn (turnRows (a .u) (a .s) (a .time) (a .setup) (a .outputs) (a .payload)) refl)
 
 pub turn-refusal-spec : {M : Type 1} → statement M
 turn-refusal-spec =
-    tie.close
-    (tie.spec widen16-requires returns widen16-requires-2 returns-2 returns-3 returns-4 returns-5)
+    tie.close (tie.spec lent-requires lent-requires-2 buffer-requires turn-requires returns)

@@ -1,6 +1,6 @@
 -- `refusal` meets its contract, by what `is_occupied` promises.
-use mathlib.Core.Path.{sym, _∙_}
 use borrow.Author.Needs.{needs}
+use Rattle.refusals.specs.Table.{orElse}
 use Rattle.peripheral_set.proofs.PeripheralHandle.refusal.Statement.{statement}
 use Rattle.peripheral_set.proofs.PeripheralHandle.refusal.Tie as tie
 
@@ -10,13 +10,12 @@ widen8-requires c κs = search needs
 is-occupied-requires : tie.Need-is-occupied-requires
 is-occupied-requires c κs = search needs
 
-returns : tie.Need-returns
-returns c =
-    rw (rw (c .before .before .widen8 .ensures .0) at (sym (c .before .is-occupied .ensures) ∙ c .if1 .taken))
+handle-requires : tie.Need-handle-requires
+handle-requires c κs = search needs
 
-returns-2 : tie.Need-returns-2
-returns-2 c =
-    rw (rw (c .before .before .widen8 .ensures .0) at (sym (c .before .is-occupied .ensures) ∙ c .if1 .left))
+returns : tie.Need-returns
+unfolding orElse
+returns c = rw (c .before .is-occupied .ensures, c .before .before .widen8 .ensures .0) at (c .handle .ensures)
 
 pub refusal-spec : {M : Type 1} → statement M
-refusal-spec = tie.close (tie.spec widen8-requires is-occupied-requires returns returns-2)
+refusal-spec = tie.close (tie.spec widen8-requires is-occupied-requires handle-requires returns)

@@ -1,14 +1,14 @@
--- `refused` meets its contract, by what `handle_of` promises.
+-- `refused` meets its contract: no event, and no handle.
 use borrow.Author.Needs.{needs}
 use Rattle.answers.proofs.turn.TurnAnswer.refused.Statement.{statement}
 use Rattle.answers.proofs.turn.TurnAnswer.refused.Tie as tie
 
-handle-of-requires : tie.Need-handle-of-requires
-handle-of-requires c κs = search needs
+none-requires : tie.Need-none-requires
+none-requires c κs = search needs
 
 returns : tie.Need-returns
 returns c =
-    rw (c .handle-of .ensures)
+    rw (c .none .ensures)
 
 pub refused-spec : {M : Type 1} → statement M
-refused-spec = tie.close (tie.spec handle-of-requires returns)
+refused-spec = tie.close (tie.spec none-requires returns)
