@@ -1,68 +1,71 @@
--- An add that is not refused has passed every check of its table.
--- The idea: the definition is a row of checks, and each is passed by where it stands in the row.
-use mathlib.Core.Path.{_≡_}
-use Prim.Native.Nat.{ℕ, _<_}
-use native.Mathlib.Omega.{arith}
-use lib.Dec.{ltb, eqb}
-use borrow.Author.Tests.{ltb-true, eqb-true}
+-- An add or a reset that is not refused has passed every row of its table.
+-- The idea: the rows of an add are two lists, one before its ranges have a place and one after, and each row is passed by where it stands.
+use mathlib.Core.Path.{_≡_, refl, sym, _∙_}
+use mathlib.Core.Bool.{Bool}
+use mathlib.Core.List.{List}
+use Prim.Native.Nat.{ℕ, _+_, _≤_}
+use lib.Dec.{eqb}
+use borrow.Author.Tests.{eqb-true, leb-true, not-false}
+use Rattle.parts.proofs.Laws.{by-test}
+use Rattle.refusals.specs.Table.{orElse}
+use Rattle.refusals.proofs.Laws.{passed, passed-from, both}
 use Rattle.fdl.specs.declared.parameters.Parameters.{Parameters}
-use Rattle.peripheral_set.specs.Marks.{slots}
-use Rattle.cycle.specs.declared.refusal.Used.{Used}
-use Rattle.cycle.specs.declared.refusal.Lent.{Lent}
+use Rattle.peripheral.specs.declared.record.Peripheral.{Peripheral}
+use Rattle.peripheral_set.specs.declared.PeripheralHandle.{PeripheralHandle}
+use Rattle.peripheral_set.specs.Marks.{firstEmpty, handleRefusal}
 use Rattle.cycle.specs.declared.refusal.Lengths.{Lengths}
-use Rattle.cycle.specs.Refusal.{unless, orElse, addressRefusal, lengthRefusal, roomRefusal, addRefusal}
-use Rattle.cycle.proofs.Laws.{passed, after, or-first, or-then}
+use Rattle.cycle.specs.Refusal.{addressRefusal, addRows, addRefusal}
+use Rattle.master.specs.declared.unit.DpMaster.{DpMaster}
+use Rattle.master.specs.declared.add.Addition.{Addition}
+use Rattle.master.specs.Pools.{Pools, lentOf}
+use Rattle.master.specs.Add.{newcomer, roomRows, roomRefusal, refusalOf}
+use Rattle.master.specs.Handle.{resetRows, resetRefusal}
 
-two : _≡_ {A = ℕ} 2 0 → ⊥
-two e = omega arith
+-- ---- the ranges of an add
 
-five : _≡_ {A = ℕ} 5 0 → ⊥
-five e = omega arith
+module _ (u : Parameters) (p : Peripheral) (z : roomRefusal u p ≡ 0) where
+  pub setup-room : p .ranges .setup + (p .options .«user_parameters» + p .options .config) ≤ u .«setup_pool»
+  unfolding roomRefusal
+  setup-room = leb-true _ _ (not-false _ (passed (roomRows u p) refl z 0))
 
-module _ (u : Parameters) (used : Used) (lent : Lent) (slot address : ℕ) (l : Lengths) (z : addRefusal u used lent slot address l ≡ 0) where
-  checks : ℕ
-  checks = orElse (addressRefusal u address) (orElse (lengthRefusal l) (roomRefusal u used l))
+  pub input-room : p .ranges .inputs + p .ranges .«input_len» ≤ u .«input_pool»
+  unfolding roomRefusal
+  input-room = leb-true _ _ (not-false _ (passed (roomRows u p) refl z 1))
 
-  pub lent-setup : lent .setup ≡ u .«setup_pool»
-  unfolding addRefusal
-  lent-setup = eqb-true _ _ (passed (eqb (lent .setup) (u .«setup_pool»)) 2 _ two z)
+  pub output-room : p .ranges .outputs + p .ranges .«output_len» ≤ u .«output_pool»
+  unfolding roomRefusal
+  output-room = leb-true _ _ (not-false _ (passed (roomRows u p) refl z 2))
 
-  second : unless (eqb (lent .inputs) (u .«input_pool»)) 2 (unless (eqb (lent .outputs) (u .«output_pool»)) 2 (unless (eqb (lent .diags) (u .«diag_pool»)) 2 (unless (ltb slot slots) 5 checks))) ≡ 0
-  unfolding addRefusal checks
-  second = after (eqb (lent .setup) (u .«setup_pool»)) 2 _ two z
+  pub diag-room : p .ranges .diag + p .ranges .«diag_room» ≤ u .«diag_pool»
+  unfolding roomRefusal
+  diag-room = leb-true _ _ (not-false _ (passed (roomRows u p) refl z 3))
 
-  pub lent-inputs : lent .inputs ≡ u .«input_pool»
-  lent-inputs = eqb-true _ _ (passed (eqb (lent .inputs) (u .«input_pool»)) 2 _ two second)
+-- ---- the whole add
 
-  third : unless (eqb (lent .outputs) (u .«output_pool»)) 2 (unless (eqb (lent .diags) (u .«diag_pool»)) 2 (unless (ltb slot slots) 5 checks)) ≡ 0
-  third = after (eqb (lent .inputs) (u .«input_pool»)) 2 _ two second
+or-first : (n rest : ℕ) → orElse n rest ≡ 0 → n ≡ 0
+unfolding orElse
+or-first n rest e = by-test (eqb n 0) (λ t. eqb-true n 0 t) (λ t. rw t at e)
 
-  pub lent-outputs : lent .outputs ≡ u .«output_pool»
-  lent-outputs = eqb-true _ _ (passed (eqb (lent .outputs) (u .«output_pool»)) 2 _ two third)
+module _ (m : DpMaster) (a : Addition) (l : Lengths) (pools : Pools) where
+  -- before its ranges have a place, and then by them
+  pub in-two : refusalOf m a l pools ≡ orElse (addRefusal (m .parameters) (lentOf pools) (firstEmpty (m .occupied)) (a .address) l) (roomRefusal (m .parameters) (newcomer m a l))
+  unfolding refusalOf addRefusal roomRefusal
+  in-two = both (addRows (m .parameters) (lentOf pools) (firstEmpty (m .occupied)) (a .address) l) (roomRows (m .parameters) (newcomer m a l)) refl
 
-  fourth : unless (eqb (lent .diags) (u .«diag_pool»)) 2 (unless (ltb slot slots) 5 checks) ≡ 0
-  fourth = after (eqb (lent .outputs) (u .«output_pool»)) 2 _ two third
+  module _ (z : refusalOf m a l pools ≡ 0) where
+    pub add-passed : addRefusal (m .parameters) (lentOf pools) (firstEmpty (m .occupied)) (a .address) l ≡ 0
+    add-passed = or-first _ (roomRefusal (m .parameters) (newcomer m a l)) (sym in-two ∙ z)
 
-  pub lent-diags : lent .diags ≡ u .«diag_pool»
-  lent-diags = eqb-true _ _ (passed (eqb (lent .diags) (u .«diag_pool»)) 2 _ two fourth)
+    pub room-passed : roomRefusal (m .parameters) (newcomer m a l) ≡ 0
+    unfolding orElse
+    room-passed = rw add-passed at (sym in-two ∙ z)
 
-  fifth : unless (ltb slot slots) 5 checks ≡ 0
-  fifth = after (eqb (lent .diags) (u .«diag_pool»)) 2 _ two fourth
+-- ---- a reset
 
-  pub add-slot : slot < slots
-  add-slot = ltb-true _ _ (passed (ltb slot slots) 5 _ five fifth)
+module _ (u : Parameters) (marks : List Bool) (h : PeripheralHandle) (address : ℕ) (z : resetRefusal u marks h address ≡ 0) where
+  pub reset-handle : handleRefusal h marks ≡ 0
+  reset-handle = rw (passed (resetRows u marks h address) refl z 0) refl
 
-  checked : checks ≡ 0
-  checked = after (ltb slot slots) 5 _ five fifth
-
-  pub add-address : addressRefusal u address ≡ 0
-  unfolding checks
-  add-address = or-first (addressRefusal u address) _ checked
-
-  pub add-lengths : lengthRefusal l ≡ 0
-  unfolding checks
-  add-lengths = or-first (lengthRefusal l) _ (or-then (addressRefusal u address) _ checked)
-
-  pub add-room : roomRefusal u used l ≡ 0
-  unfolding checks
-  add-room = or-then (lengthRefusal l) _ (or-then (addressRefusal u address) _ checked)
+  pub reset-address : addressRefusal u address ≡ 0
+  unfolding addressRefusal
+  reset-address = passed-from (resetRows u marks h address) refl z 1

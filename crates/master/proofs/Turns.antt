@@ -1,15 +1,12 @@
 -- Creation, and a turn put together from its pieces or refused.
 -- The idea: the visits are named by what the loop left, and everything else cites them.
 use mathlib.Core.Path.{_≡_, refl, sym, ap, _∙_, subst}
-use mathlib.Core.Bool.{Bool, true, false, cond}
 use mathlib.Core.List.{List}
-use native.Mathlib.Omega.{arith}
 use Prim.Native.Nat.{ℕ}
-use lib.Dec.{eqb}
 use lib.ListN.{length, getD}
 use borrow.Author.Tests.{eq-eqb, ne-eqb}
 use Rattle.fdl.specs.declared.parameters.Parameters.{Parameters}
-use Rattle.fdl.specs.Params.{inRange, creationRefusal, inForce, lowest}
+use Rattle.fdl.specs.Params.{creationRefusal, inForce, lowest}
 use Rattle.peripheral.specs.declared.record.Peripheral.{Peripheral}
 use Rattle.peripheral.specs.Record.{blank}
 use Rattle.cycle.specs.declared.seen.Seen.{Seen}
@@ -25,25 +22,14 @@ use Rattle.master.specs.Turn.{Swept, turnPayload, turnAnswer, Turns}
 
 -- ---- creation
 
-module _ (u : Parameters) where
-  in-range : (b : Bool) → _≡_ {A = ℕ} (cond b 0 1) 0 → b ≡ true
-  in-range true e = refl
-  in-range false e = absurd (omega arith)
-
-  out-of-range : (b : Bool) → (_≡_ {A = ℕ} (cond b 0 1) 0 → ⊥) → b ≡ false
-  out-of-range true h = absurd (h refl)
-  out-of-range false h = refl
-
-  pub created : (m : DpMaster) → creationRefusal u ≡ 0 → m ≡ emptyUnit (inForce u) → record { refusal = 0; master = m } ≡ createdOf u
+module _ (u : Parameters) (n : ℕ) (m : DpMaster) (en : n ≡ creationRefusal u) where
+  pub created : n ≡ 0 → m ≡ emptyUnit (inForce u) → record { refusal = n; master = m } ≡ createdOf u
   unfolding createdOf
-  created m z e = rw (in-range (inRange u) z) (rw e refl)
+  created z e = rw (← en, z, e) refl
 
-  pub uncreated : (n : ℕ) (m : DpMaster) → n ≡ creationRefusal u → (n ≡ 0 → ⊥) → m ≡ emptyUnit lowest → record { refusal = n; master = m } ≡ createdOf u
+  pub uncreated : (n ≡ 0 → ⊥) → m ≡ emptyUnit lowest → record { refusal = n; master = m } ≡ createdOf u
   unfolding createdOf
-  uncreated n m en h e =
-      let o = out-of-range (inRange u) (λ z. h (en ∙ z)) in
-      let one : n ≡ 1 = en ∙ rw o refl in
-      rw (o, one, e) refl
+  uncreated h e = rw (← en, ne-eqb n 0 h, e) refl
 
 -- ---- the turn
 

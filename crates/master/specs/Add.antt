@@ -1,24 +1,30 @@
--- Adding a balance: the slot, the ranges, the unit and the four pools afterwards.
+-- Adding a balance: the slot, the new balance with its ranges, the unit and the four pools afterwards.
 -- From 01, "The unit and its sizes" ("Adding takes the first empty slot, ..") with the refusals of "Refusal numbers".
 use mathlib.Core.Path.{_≡_}
 use Prim.Native.Nat.{ℕ, _+_}
-use mathlib.Core.Bool.{Bool, true, false, cond}
-use mathlib.Core.List.{List, []}
+use mathlib.Core.Bool.{true, cond}
+use mathlib.Core.List.{List, [], _∷_, _++_}
 use lib.ListN.{length, set}
 use lib.Dec.{eqb}
 use Rattle.parts.specs.Parts.{putIn, zeros}
+use Rattle.refusals.specs.Table.{Row, roomRow, firstOf}
+use Rattle.fdl.specs.declared.parameters.Parameters.{Parameters}
 use Rattle.payloads.specs.declared.options.PeripheralOptions.{PeripheralOptions}
 use Rattle.peripheral.specs.declared.record.Ranges.{Ranges}
+use Rattle.peripheral.specs.declared.record.Peripheral.{Peripheral}
 use Rattle.peripheral.specs.Record.{newBalance}
-use Rattle.peripheral_set.specs.Marks.{firstEmpty}
-use Rattle.cycle.specs.declared.refusal.Used.{Used}
+use Rattle.peripheral_set.specs.Marks.{noHandle, firstEmpty}
 use Rattle.cycle.specs.declared.refusal.Lengths.{Lengths}
-use Rattle.cycle.specs.Refusal.{addRefusal}
+use Rattle.cycle.specs.Refusal.{addRows}
 use Rattle.master.specs.declared.unit.DpMaster.{DpMaster}
+use Rattle.master.specs.declared.unit.Used.{Used}
 use Rattle.master.specs.declared.add.Addition.{Addition}
 use Rattle.master.specs.declared.add.Added.{Added}
+use Rattle.master.specs.Pools.{Pools, lentOf}
 
--- absent set-up data has the length 0, whatever is lent
+-- ---- what is asked for
+
+-- absent set-up data has the length 0, whatever is lent (DECISIONS 14)
 abbrev pub userOf : Addition → List ℕ → List ℕ
 userOf a user = cond (a .options .«has_user_parameters») user []
 
@@ -29,7 +35,9 @@ abbrev pub lengthsOf : Addition → List ℕ → List ℕ → Lengths
 lengthsOf a user config =
     record { user = length (userOf a user); config = length (configOf a config); inputs = a .«input_len»; outputs = a .«output_len»; room = a .room }
 
--- each range after the used part of its pool
+-- ---- the new balance
+
+-- where the four ranges stand: each after the used part of its pool
 abbrev pub rangesAt : Used → Lengths → Ranges
 rangesAt used l =
     record {
@@ -42,15 +50,7 @@ rangesAt used l =
       «diag_room» = l .room;
     }
 
-abbrev pub usedAfter : Used → Lengths → Used
-usedAfter used l =
-    record {
-      setup = used .setup + (l .user + l .config);
-      inputs = used .inputs + l .inputs;
-      outputs = used .outputs + l .outputs;
-      diags = used .diags + l .room;
-    }
-
+-- the options with the lengths of their set-up data; those that they came with are not looked at (DECISIONS 28)
 abbrev pub optionsHeld : PeripheralOptions → Lengths → PeripheralOptions
 optionsHeld o l =
     record {
@@ -66,7 +66,52 @@ optionsHeld o l =
       config = l .config;
     }
 
--- set-up data is copied in: the user parameters first, the configuration right after
+abbrev pub newcomer : DpMaster → Addition → Lengths → Peripheral
+newcomer m a l = newBalance (a .address) (optionsHeld (a .options) l) (rangesAt (m .used) l)
+
+-- ---- the refusal
+
+-- one of its four ranges passes its pool's end
+abbrev pub roomRows : Parameters → Peripheral → List Row
+roomRows u p =
+    roomRow (p .ranges .setup) (p .options .«user_parameters» + p .options .config) (u .«setup_pool»)
+    ∷ roomRow (p .ranges .inputs) (p .ranges .«input_len») (u .«input_pool»)
+    ∷ roomRow (p .ranges .outputs) (p .ranges .«output_len») (u .«output_pool»)
+    ∷ roomRow (p .ranges .diag) (p .ranges .«diag_room») (u .«diag_pool»)
+    ∷ []
+
+unfoldable pub roomRefusal : Parameters → Peripheral → ℕ
+roomRefusal u p = firstOf (roomRows u p)
+
+-- what is lent, the table, the address and the lengths, and then the ranges
+unfoldable pub refusalOf : DpMaster → Addition → Lengths → Pools → ℕ
+refusalOf m a l pools =
+    firstOf (addRows (m .parameters) (lentOf pools) (firstEmpty (m .occupied)) (a .address) l ++ roomRows (m .parameters) (newcomer m a l))
+
+-- ---- what is left
+
+-- the used parts end where the new ranges do
+abbrev pub usedAfter : Peripheral → Used
+usedAfter p =
+    record {
+      setup = p .ranges .setup + (p .options .«user_parameters» + p .options .config);
+      inputs = p .ranges .inputs + p .ranges .«input_len»;
+      outputs = p .ranges .outputs + p .ranges .«output_len»;
+      diags = p .ranges .diag + p .ranges .«diag_room»;
+    }
+
+-- the unit with the balance in the first empty slot
+abbrev pub unitAdded : DpMaster → Peripheral → DpMaster
+unitAdded m p =
+    record {
+      state = m .state;
+      parameters = m .parameters;
+      used = usedAfter p;
+      occupied = set (m .occupied) (firstEmpty (m .occupied)) true;
+      peripherals = set (m .peripherals) (firstEmpty (m .occupied)) p;
+    }
+
+-- set-up data is copied in: the user parameters first, the configuration right after (DECISIONS 2)
 abbrev pub setupAfter : ℕ → List ℕ → List ℕ → List ℕ → List ℕ
 setupAfter at user config setup = putIn (at + length user) (length config) config (putIn at (length user) user setup)
 
@@ -74,34 +119,22 @@ setupAfter at user config setup = putIn (at + length user) (length config) confi
 abbrev pub cleared : ℕ → ℕ → List ℕ → List ℕ
 cleared at len pool = putIn at len (zeros len) pool
 
--- the unit with the balance in the first empty slot
-abbrev pub unitAdded : DpMaster → Addition → Lengths → DpMaster
-unitAdded m a l =
+abbrev pub poolsAfter : Peripheral → List ℕ → List ℕ → Pools → Pools
+poolsAfter p user config pools =
     record {
-      state = m .state;
-      parameters = m .parameters;
-      used = usedAfter (m .used) l;
-      occupied = set (m .occupied) (firstEmpty (m .occupied)) true;
-      peripherals = set (m .peripherals) (firstEmpty (m .occupied)) (newBalance (a .address) (optionsHeld (a .options) l) (rangesAt (m .used) l));
+      setup = setupAfter (p .ranges .setup) user config (pools .setup);
+      inputs = cleared (p .ranges .inputs) (p .ranges .«input_len») (pools .inputs);
+      outputs = cleared (p .ranges .outputs) (p .ranges .«output_len») (pools .outputs);
+      diags = cleared (p .ranges .diag) (p .ranges .«diag_room») (pools .diags);
     }
 
--- what an add promises: n is its refusal, l the lengths that it asks for
-pub record Adds (n : ℕ) (l : Lengths) (m : DpMaster) (a : Addition) (user config setup inputs outputs diags outSetup outInputs outOutputs outDiags : List ℕ) (r : Added) : Type 0 where
+-- what an add promises: n is its refusal, p the new balance; a refused add has no handle (DECISIONS 10)
+pub record Adds (n : ℕ) (p : Peripheral) (m : DpMaster) (user config : List ℕ) (pools out : Pools) (r : Added) : Type 0 where
   pub refusal : r .refusal ≡ n
-  pub handle : r .handle ≡ cond (eqb n 0) (record { slot = firstEmpty (m .occupied); address = a .address }) (record { slot = 255; address = 255 })
-  pub after : r .master ≡ cond (eqb n 0) (unitAdded m a l) m
-  pub setupPool : outSetup ≡ cond (eqb n 0) (setupAfter (m .used .setup) user config setup) setup
-  pub inputPool : outInputs ≡ cond (eqb n 0) (cleared (m .used .inputs) (l .inputs) inputs) inputs
-  pub outputPool : outOutputs ≡ cond (eqb n 0) (cleared (m .used .outputs) (l .outputs) outputs) outputs
-  pub diagPool : outDiags ≡ cond (eqb n 0) (cleared (m .used .diags) (l .room) diags) diags
+  pub handle : r .handle ≡ cond (eqb n 0) (record { slot = firstEmpty (m .occupied); address = p .station .address }) noHandle
+  pub after : r .master ≡ cond (eqb n 0) (unitAdded m p) m
+  pub written : out ≡ cond (eqb n 0) (poolsAfter p user config pools) pools
 
--- the refusal of an add
-abbrev pub refusalOf : DpMaster → Addition → Lengths → List ℕ → List ℕ → List ℕ → List ℕ → ℕ
-refusalOf m a l setup inputs outputs diags =
-    addRefusal (m .parameters) (m .used) (record { setup = length setup; inputs = length inputs; outputs = length outputs; diags = length diags })
-    (firstEmpty (m .occupied)) (a .address) l
-
-abbrev pub Adding : DpMaster → Addition → List ℕ → List ℕ → List ℕ → List ℕ → List ℕ → List ℕ → List ℕ → List ℕ → List ℕ → List ℕ → Added → Type 0
-Adding m a user config setup inputs outputs diags outSetup outInputs outOutputs outDiags r =
-    Adds (refusalOf m a (lengthsOf a user config) setup inputs outputs diags) (lengthsOf a user config) m a (userOf a user) (configOf a config) setup inputs outputs diags
-    outSetup outInputs outOutputs outDiags r
+abbrev pub Adding : DpMaster → Addition → List ℕ → List ℕ → Pools → Pools → Added → Type 0
+Adding m a user config pools out r =
+    Adds (refusalOf m a (lengthsOf a user config) pools) (newcomer m a (lengthsOf a user config)) m (userOf a user) (configOf a config) pools out r

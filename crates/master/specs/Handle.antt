@@ -2,25 +2,28 @@
 -- From 01, "The unit and its sizes" and "Refusal numbers".
 use Prim.Native.Nat.{ℕ}
 use mathlib.Core.Bool.{Bool, true, cond}
-use mathlib.Core.List.{List}
+use mathlib.Core.List.{List, [], _∷_}
 use lib.ListN.{set}
 use lib.Dec.{eqb}
+use Rattle.refusals.specs.Table.{Row, handleRow, addressRow, firstOf}
 use Rattle.fdl.specs.declared.parameters.Parameters.{Parameters}
 use Rattle.station.specs.Record.{dueIs}
 use Rattle.peripheral.specs.declared.record.Peripheral.{Peripheral}
 use Rattle.peripheral.specs.Record.{resetOf, stationIs}
 use Rattle.peripheral_set.specs.declared.PeripheralHandle.{PeripheralHandle}
-use Rattle.peripheral_set.specs.Marks.{handleRefusal}
+use Rattle.peripheral_set.specs.Marks.{isOccupied, handleRefusal}
 use Rattle.cycle.specs.Seen.{indexOf}
 use Rattle.cycle.specs.State.{closedFor}
-use Rattle.cycle.specs.Refusal.{addressRefusal, orElse}
 use Rattle.master.specs.declared.unit.DpMaster.{DpMaster}
 use Rattle.master.specs.declared.unit.Done.{Done}
 use Rattle.master.specs.Unit.{stateIs, balancesAre, balanceAt}
 
--- reset: the handle, then the address
+-- a reset: the handle, then the address
+abbrev pub resetRows : Parameters → List Bool → PeripheralHandle → ℕ → List Row
+resetRows u marks h address = handleRow (isOccupied marks (h .slot)) ∷ addressRow address (u .address) ∷ []
+
 abbrev pub resetRefusal : Parameters → List Bool → PeripheralHandle → ℕ → ℕ
-resetRefusal u marks h address = orElse (handleRefusal h marks) (addressRefusal u address)
+resetRefusal u marks h address = firstOf (resetRows u marks h address)
 
 -- the unit with another balance in a slot
 abbrev pub balanceIs : ℕ → Peripheral → DpMaster → DpMaster

@@ -1,4 +1,5 @@
 pub mod Unit
+pub mod Pools
 pub mod Add
 pub mod Handle
 pub mod Turn

@@ -1,11 +1,12 @@
 -- The unit: as created, with another state, and the balance in a slot.
 -- From 01, "The unit and its sizes" (a fresh unit) and "Refusal numbers" (what a refused creation returns).
 use Prim.Native.Nat.{ℕ}
-use mathlib.Core.Bool.{Bool, true, false, cond}
+use mathlib.Core.Bool.{false, cond}
 use mathlib.Core.List.{List}
 use lib.ListN.{getD, replicate}
+use lib.Dec.{eqb}
 use Rattle.fdl.specs.declared.parameters.Parameters.{Parameters}
-use Rattle.fdl.specs.Params.{inRange, inForce, lowest}
+use Rattle.fdl.specs.Params.{creationRefusal, inForce, lowest}
 use Rattle.peripheral.specs.declared.record.Peripheral.{Peripheral}
 use Rattle.peripheral.specs.Record.{blank}
 use Rattle.peripheral_set.specs.Marks.{slots}
@@ -26,10 +27,9 @@ emptyUnit u =
       peripherals = replicate slots blank;
     }
 
--- a refused creation returns 1 with an empty unit in Stop whose parameters are all at their lowest
+-- a refused creation leaves an empty unit in Stop whose parameters are all at their lowest
 unfoldable pub createdOf : Parameters → Done
-createdOf u =
-    cond (inRange u) (record { refusal = 0; master = emptyUnit (inForce u) }) (record { refusal = 1; master = emptyUnit lowest })
+createdOf u = record { refusal = creationRefusal u; master = emptyUnit (cond (eqb (creationRefusal u) 0) (inForce u) lowest) }
 
 -- the state of the cycle and one slot's balance: all that turns and replies change
 abbrev pub stateIs : DpMasterState → DpMaster → DpMaster

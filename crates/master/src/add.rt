@@ -3,28 +3,28 @@ ghost use mathlib.Core.Path.{_≡_};
 ghost use mathlib.Core.Bool.{cond};
 ghost use mathlib.Core.List.{[]};
 ghost use Prim.Native.Nat.{_+_, _≤_};
-ghost use lib.ListN.{length};
-ghost use Rattle.parts.specs.Parts.{putIn};
-ghost use Rattle.cycle.specs.Refusal.{lengthRefusal, roomRefusal};
-ghost use Rattle.master.specs.Add.{rangesAt, usedAfter, optionsHeld, setupAfter, Adding};
+ghost use Rattle.cycle.specs.Refusal.{lengthRefusal};
+ghost use Rattle.master.specs.Pools.{poolsOf};
+ghost use Rattle.master.specs.Add.{rangesAt, usedAfter, optionsHeld, roomRefusal, setupAfter, cleared, Adding};
 use crate::unit::DpMaster;
+use crate::unit::Used;
 use cycle::refusal::Lengths;
 use cycle::refusal::Lent;
-use cycle::refusal::Used;
 use fdl::parameters::Parameters;
 use payloads::options::PeripheralOptions;
 use peripheral::record::Peripheral;
 use peripheral::record::Ranges;
 use peripheral_set::PeripheralHandle;
+use refusals::DONE;
 
-// The handle of the new balance; slot 255 and address 255 where the add is refused.
+// The handle of the new balance; none where the add is refused.
 pub struct Added {
     pub refusal: u8,
     pub handle: PeripheralHandle,
     pub master: DpMaster,
 }
 
-// What a call adds, beside its set-up data: absent data has the length 0 whatever is lent, and the two lengths in the options are not looked at.
+// What a call adds, beside its set-up data: absent data has the length 0 whatever is lent, and the two lengths in the options are not looked at. DECISIONS 14, 28
 pub struct Addition {
     pub address: u8,
     pub options: PeripheralOptions,
@@ -43,7 +43,7 @@ fn present(has: bool, data: &[u8]) -> &[u8]
     &data[0..0]
 }
 
-// The ranges of a new balance: each after the used part of its pool.
+// Where the ranges of a new balance stand: each after the used part of its pool.
 fn ranges_at(used: Used, l: Lengths) -> Ranges
     requires { ⌜ lengthRefusal l ≡ 0 ⌝ }
     ensures { λ r. ⌜ r ≡ rangesAt used l ⌝ }
@@ -59,24 +59,43 @@ fn ranges_at(used: Used, l: Lengths) -> Ranges
     }
 }
 
-// Where a range ends that lies in its pool.
-fn end_of(pool: u16, used: u16, len: usize) -> u16
-    requires { ⌜ used + len ≤ pool ⌝ }
-    ensures { λ r. ⌜ r ≡ used + len ⌝ }
+// How long the set-up range of a balance is.
+fn setup_len(p: Peripheral) -> usize
+    ensures { λ r. ⌜ r ≡ p .options .«user_parameters» + p .options .config ⌝ }
 {
-    (parts::widen16(used) + len) as u16
+    parts::widen8(p.options.user_parameters) + parts::widen8(p.options.config)
 }
 
-// The used parts with those ranges.
-fn used_after(u: Parameters, used: Used, l: Lengths) -> Used
-    requires { ⌜ (lengthRefusal l ≡ 0) × (roomRefusal u used l ≡ 0) ⌝ }
-    ensures { λ r. ⌜ r ≡ usedAfter used l ⌝ }
+// Each of its ranges, by its pool.
+fn room_refusal(u: Parameters, p: Peripheral) -> u8
+    ensures { λ r. ⌜ r ≡ roomRefusal u p ⌝ }
 {
+    let r = p.ranges;
+    let n = refusals::room(DONE, r.setup, setup_len(p), u.setup_pool);
+    let n = refusals::room(n, r.inputs, parts::widen8(r.input_len), u.input_pool);
+    let n = refusals::room(n, r.outputs, parts::widen8(r.output_len), u.output_pool);
+    refusals::room(n, r.diag, parts::widen8(r.diag_room), u.diag_pool)
+}
+
+// Where a range ends that lies in its pool.
+fn end_of(pool: u16, start: u16, len: usize) -> u16
+    requires { ⌜ start + len ≤ pool ⌝ }
+    ensures { λ r. ⌜ r ≡ start + len ⌝ }
+{
+    (parts::widen16(start) + len) as u16
+}
+
+// The used parts end where its ranges do.
+fn used_after(u: Parameters, p: Peripheral) -> Used
+    requires { ⌜ roomRefusal u p ≡ 0 ⌝ }
+    ensures { λ r. ⌜ r ≡ usedAfter p ⌝ }
+{
+    let r = p.ranges;
     Used {
-        setup: end_of(u.setup_pool, used.setup, l.user + l.config),
-        inputs: end_of(u.input_pool, used.inputs, l.inputs),
-        outputs: end_of(u.output_pool, used.outputs, l.outputs),
-        diags: end_of(u.diag_pool, used.diags, l.room),
+        setup: end_of(u.setup_pool, r.setup, setup_len(p)),
+        inputs: end_of(u.input_pool, r.inputs, parts::widen8(r.input_len)),
+        outputs: end_of(u.output_pool, r.outputs, parts::widen8(r.output_len)),
+        diags: end_of(u.diag_pool, r.diag, parts::widen8(r.diag_room)),
     }
 }
 
@@ -101,6 +120,13 @@ fn store_setup(setup: &mut [u8], at: u16, user: &[u8], config: &[u8])
     parts::copy_at(setup, start + count, config.len(), config);
 }
 
+// A range of a pool is zeroed.
+fn clear(pool: &mut [u8], at: u16, len: u8)
+    ensures { λ _. ⌜ now (pool .exit) ≡ cleared at len (now (pool .entry)) ⌝ }
+{
+    parts::clear_at(pool, parts::widen16(at), parts::widen8(len));
+}
+
 impl DpMaster {
     pub fn add(
         self,
@@ -112,10 +138,9 @@ impl DpMaster {
         outputs: &mut [u8],
         diags: &mut [u8],
     ) -> Added
-        ensures { λ r. ⌜ Adding self a (now (user .entry)) (now (config .entry)) (now (setup .entry)) (now (inputs .entry)) (now (outputs .entry)) (now (diags .entry)) (now (setup .exit)) (now (inputs .exit)) (now (outputs .exit)) (now (diags .exit)) r ⌝ }
+        ensures { λ r. ⌜ Adding self a (now (user .entry)) (now (config .entry)) (poolsOf (now (setup .entry)) (now (inputs .entry)) (now (outputs .entry)) (now (diags .entry))) (poolsOf (now (setup .exit)) (now (inputs .exit)) (now (outputs .exit)) (now (diags .exit))) r ⌝ }
     {
         let u = self.parameters;
-        let used = self.used;
         let marks = self.occupied;
         let options = a.options;
         let user_data = present(options.has_user_parameters, user);
@@ -134,34 +159,39 @@ impl DpMaster {
             diags: diags.len(),
         };
         let slot = peripheral_set::first_empty(marks);
-        let refusal = cycle::refusal::add_refusal(u, used, lent, slot, a.address, l);
-        if refusal != 0 {
-            let none = PeripheralHandle {
-                slot: 255,
-                address: 255,
-            };
+        let refusal = cycle::refusal::add_refusal(u, lent, slot, a.address, l);
+        if refusal != DONE {
             return Added {
                 refusal: refusal,
-                handle: none,
+                handle: PeripheralHandle::none(),
+                master: self,
+            };
+        }
+        let p = Peripheral::new(a.address, options_held(options, l), ranges_at(self.used, l));
+        let passes = room_refusal(u, p);
+        if passes != DONE {
+            return Added {
+                refusal: passes,
+                handle: PeripheralHandle::none(),
                 master: self,
             };
         }
         let mut m = self;
-        let p = Peripheral::new(a.address, options_held(options, l), ranges_at(used, l));
         m.peripherals[slot] = p;
         m.occupied[slot] = true;
-        let after = used_after(u, used, l);
+        let after = used_after(u, p);
         m.used = after;
-        store_setup(setup, used.setup, user_data, config_data);
-        parts::clear_at(inputs, parts::widen16(used.inputs), a.input_len);
-        parts::clear_at(outputs, parts::widen16(used.outputs), a.output_len);
-        parts::clear_at(diags, parts::widen16(used.diags), a.room);
+        let r = p.ranges;
+        store_setup(setup, r.setup, user_data, config_data);
+        clear(inputs, r.inputs, r.input_len);
+        clear(outputs, r.outputs, r.output_len);
+        clear(diags, r.diag, r.diag_room);
         let handle = PeripheralHandle {
             slot: slot as u8,
             address: a.address,
         };
         Added {
-            refusal: 0,
+            refusal: DONE,
             handle: handle,
             master: m,
         }

@@ -7,15 +7,12 @@ use fdl::parameters::Parameters;
 use peripheral_set::PeripheralHandle;
 use peripheral_set::SLOTS;
 
-// A reset: 4, then 6.
+// A reset: the handle, then the address.
 fn reset_refusal(u: Parameters, marks: [bool; SLOTS], handle: PeripheralHandle, address: u8) -> u8
     ensures { λ r. ⌜ r ≡ resetRefusal u marks handle address ⌝ }
 {
-    let refusal = handle.refusal(marks);
-    if refusal != 0 {
-        return refusal;
-    }
-    cycle::refusal::address_refusal(u, address)
+    let n = handle.refusal(marks);
+    refusals::address(n, address, u.address)
 }
 
 impl DpMaster {

@@ -2,12 +2,20 @@
 ghost use mathlib.Core.Path.{_≡_};
 ghost use Rattle.cycle.specs.State.{operatingOf, entered};
 ghost use Rattle.master.specs.Unit.{emptyUnit, createdOf, stateIs};
-use cycle::refusal::Used;
 use cycle::state::DpMasterState;
 use cycle::state::OperatingState;
 use fdl::parameters::Parameters;
 use peripheral::record::Peripheral;
 use peripheral_set::SLOTS;
+
+// The used part of each pool.
+#[repr(C)]
+pub struct Used {
+    pub setup: u16,
+    pub inputs: u16,
+    pub outputs: u16,
+    pub diags: u16,
+}
 
 // 24 bytes that change with each turn, 20 of parameters, 8 of used lengths, a mark and 36 bytes a slot.
 #[repr(C)]
@@ -49,14 +57,14 @@ fn empty_unit(parameters: Parameters) -> DpMaster
 }
 
 impl DpMaster {
-    // A new unit; 1, and an empty unit whose parameters are all at their lowest, where one is outside its range.
+    // A new unit; where a parameter is outside its range, an empty one whose parameters are all at their lowest.
     pub fn new(parameters: Parameters) -> Done
         ensures { λ r. ⌜ r ≡ createdOf parameters ⌝ }
     {
         let refusal = parameters.refusal();
         if refusal == 0 {
             return Done {
-                refusal: 0,
+                refusal: refusal,
                 master: empty_unit(parameters.in_force()),
             };
         }

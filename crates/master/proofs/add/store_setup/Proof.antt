@@ -20,7 +20,10 @@ same-length c = search needs
 
 returns : tie.Need-returns
 returns c =
-    rw (c .before .before .before .before .before .before .copy-at .ensures .bytes, c .before .before .before .before .before .before .before .before .widen16 .ensures .0) at (c .before .before .copy-at2 .ensures .bytes)
+    let at-copy-at2 = c .before .before in
+    let at-copy-at = at-copy-at2 .before .before .before .before in
+    let at-widen16 = at-copy-at .before .before in
+    rw (at-copy-at .copy-at .ensures .bytes, at-widen16 .widen16 .ensures .0) at (at-copy-at2 .copy-at2 .ensures .bytes)
 
 pub store-setup-spec : {M : Type 1} → statement M
 store-setup-spec =

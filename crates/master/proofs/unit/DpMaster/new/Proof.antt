@@ -1,5 +1,4 @@
 -- `new` meets its contract: in range or not.
-use mathlib.Core.Path.{sym, _∙_}
 use Rattle.master.proofs.Turns.{created, uncreated}
 use borrow.Author.Needs.{needs}
 use Rattle.master.proofs.unit.DpMaster.new.Statement.{statement}
@@ -16,7 +15,10 @@ empty-unit-requires c κs = search needs
 
 returns : tie.Need-returns
 returns c =
-    created (c .before .before .before .before .args .parameters) (c .empty-unit .result) (sym (c .before .before .before .refusal .ensures) ∙ c .before .before .if1 .taken) (rw (c .before .in-force .ensures) at (c .empty-unit .ensures))
+    let at-if1 = c .before .before in
+    let s = at-if1 .before in
+    let at-start = s .before in
+    created (at-start .args .parameters) (s .refusal .result) (c .empty-unit .result) (s .refusal .ensures) (at-if1 .if1 .taken) (rw (c .before .in-force .ensures) at (c .empty-unit .ensures))
 
 lowest-requires : tie.Need-lowest-requires
 lowest-requires c κs = search needs
@@ -26,7 +28,10 @@ empty-unit-requires-2 c κs = search needs
 
 returns-2 : tie.Need-returns-2
 returns-2 c =
-    uncreated (c .before .before .before .before .args .parameters) (c .before .before .before .refusal .result) (c .empty-unit2 .result) (c .before .before .before .refusal .ensures) (c .before .before .if1 .left) (rw (c .before .lowest .ensures) at (c .empty-unit2 .ensures))
+    let at-if1 = c .before .before in
+    let s = at-if1 .before in
+    let at-start = s .before in
+    uncreated (at-start .args .parameters) (s .refusal .result) (c .empty-unit2 .result) (s .refusal .ensures) (at-if1 .if1 .left) (rw (c .before .lowest .ensures) at (c .empty-unit2 .ensures))
 
 pub new-spec : {M : Type 1} → statement M
 new-spec =

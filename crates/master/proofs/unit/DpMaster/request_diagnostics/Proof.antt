@@ -35,7 +35,11 @@ element-set-from-q c = search needs
 returns-2 : tie.Need-returns-2
 unfolding wishDone
 returns-2 c =
-    is-done _ (c .before .before .before .before .refusal .result) _ (c .before .before .before .before .before .before .args .self) (c .before .before .before .before .refusal .ensures) _ (c .before .before .before .if1 .left) (rw (c .request-diagnostics .ensures, c .before .before .index .ensures .0) refl)
+    let at-index = c .before .before in
+    let at-if1 = at-index .before in
+    let at-refusal = at-if1 .before in
+    let at-start = at-refusal .before .before in
+    is-done _ (at-refusal .refusal .result) _ (at-start .args .self) (at-refusal .refusal .ensures) _ (at-if1 .if1 .left) (rw (c .request-diagnostics .ensures, at-index .index .ensures .0) refl)
 
 pub request-diagnostics-spec : {M : Type 1} → statement M
 request-diagnostics-spec =

@@ -38,7 +38,11 @@ closed-for-requires c κs = search needs
 returns-2 : tie.Need-returns-2
 unfolding resetDone
 returns-2 c =
-    is-done _ (c .before .before .before .before .before .reset-refusal .result) _ (c .before .before .before .before .before .before .before .before .before .args .self) (c .before .before .before .before .before .reset-refusal .ensures) _ (c .before .before .before .before .if1 .left) (rw (c .closed-for .ensures, c .before .reset-address .ensures, c .before .before .before .index .ensures .0) refl)
+    let at-index = c .before .before .before in
+    let at-if1 = at-index .before in
+    let at-reset-refusal = at-if1 .before in
+    let at-start = at-reset-refusal .before .before .before .before in
+    is-done _ (at-reset-refusal .reset-refusal .result) _ (at-start .args .self) (at-reset-refusal .reset-refusal .ensures) _ (at-if1 .if1 .left) (rw (c .closed-for .ensures, c .before .reset-address .ensures, at-index .index .ensures .0) refl)
 
 pub reset-address-spec : {M : Type 1} → statement M
 reset-address-spec =

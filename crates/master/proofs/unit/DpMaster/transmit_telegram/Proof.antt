@@ -26,7 +26,9 @@ refused-requires c κs = search needs
 
 returns : tie.Need-returns Inv-loop μ-loop
 returns c =
-    let a = c .before .before .before .before .before .before .before .before .args in turn-refused _ _ _ (a .self) (a .time) (a .setup .now) (a .outputs .now) (a .buf .now) _ (λ z. c .before .if1 .taken (c .before .before .turn-refusal .ensures ∙ z)) refl (c .refused .ensures ∙ ap refusedTurn (c .before .before .turn-refusal .ensures))
+    let at-turn-refusal = c .before .before in
+    let at-start = at-turn-refusal .before .before .before .before .before .before in
+    let a = at-start .args in turn-refused _ _ _ (a .self) (a .time) (a .setup .now) (a .outputs .now) (a .buf .now) _ (λ z. c .before .if1 .taken (at-turn-refusal .turn-refusal .ensures ∙ z)) refl (c .refused .ensures ∙ ap refusedTurn (at-turn-refusal .turn-refusal .ensures))
 
 step-requires : tie.Need-step-requires Inv-loop μ-loop
 step-requires c κs = search needs
@@ -42,7 +44,9 @@ at-or-after-requires c κs = search needs
 
 loop-holds : tie.Need-loop-holds Inv-loop μ-loop
 loop-holds c =
-    let a = c .before .before .before .before .before .before .before .before .before .before .before .before .args in sweeping-begins (a .self .parameters .«max_retry_limit») (a .self .occupied) (a .self) (c .before .before .new .result) (c .before .start .result) (c .at-or-after .result) (c .at-or-after .ensures) (rw (c .before .before .new .ensures) refl)
+    let at-new = c .before .before in
+    let at-start = at-new .before .before .before .before .before .before .before .before .before .before in
+    let a = at-start .args in sweeping-begins (a .self .parameters .«max_retry_limit») (a .self .occupied) (a .self) (at-new .new .result) (c .before .start .result) (c .at-or-after .result) (c .at-or-after .ensures) (rw (at-new .new .ensures) refl)
 
 mul-p : tie.Need-mul-p Inv-loop μ-loop
 mul-p c = search needs
@@ -70,14 +74,21 @@ next-requires c κs = search needs
 
 loop-less : tie.Need-loop-less Inv-loop μ-loop
 loop-less c =
-    let a = c .before .before .before .before .before .before .before .before .before .before .before .before .before .before .before .before .before .before .before .args in falls (a .self .parameters .«max_retry_limit») (a .self .occupied) (c .before .seen-after .result .sent) (c .before .before .before .before .before .before .loop .i) (c .next .result) (c .before .before .before .before .before .loop-test .taken) (c .next .ensures)
+    let at-loop-test = c .before .before .before .before .before in
+    let at-loop = at-loop-test .before in
+    let at-start = at-loop .before .before .before .before .before .before .before .before .before .before .before .before .before in
+    let a = at-start .args in falls (a .self .parameters .«max_retry_limit») (a .self .occupied) (c .before .seen-after .result .sent) (at-loop .loop .i) (c .next .result) (at-loop-test .loop-test .taken) (c .next .ensures)
 
 loop-again : tie.Need-loop-again Inv-loop μ-loop
 loop-again c =
-    let a = c .before .before .before .before .before .before .before .before .before .before .before .before .before .before .before .before .before .before .before .args in
-    let l = c .before .before .before .before .before .before .loop in
-    sweeping-goes-on (a .self .parameters .«max_retry_limit») (a .self .occupied) _ (a .self) (l .m) (l .seen) (c .before .seen-after .result) (l .i) (c .next .result) (c .before .before .before .visit .result) (c .before .before .before .before .before .loop-test .taken) (l .inv)
-    (c .before .before .before .visit .ensures) (c .before .seen-after .ensures) (c .next .ensures)
+    let at-visit = c .before .before .before in
+    let at-loop-test = at-visit .before .before in
+    let at-loop = at-loop-test .before in
+    let at-start = at-loop .before .before .before .before .before .before .before .before .before .before .before .before .before in
+    let a = at-start .args in
+    let l = at-loop .loop in
+    sweeping-goes-on (a .self .parameters .«max_retry_limit») (a .self .occupied) _ (a .self) (l .m) (l .seen) (c .before .seen-after .result) (l .i) (c .next .result) (at-visit .visit .result) (at-loop-test .loop-test .taken) (l .inv)
+    (at-visit .visit .ensures) (c .before .seen-after .ensures) (c .next .ensures)
 
 after-turn-requires : tie.Need-after-turn-requires Inv-loop μ-loop
 after-turn-requires c κs = search needs
@@ -119,16 +130,30 @@ same-length c =
 returns-2 : tie.Need-returns-2 Inv-loop μ-loop
 unfolding sweptBy
 returns-2 c =
-    let a = c .before .before .before .before .before .before .before .before .before .before .before .before .before .before .before .before .before .before .before .before .before .before .before .before .before .before .args in
-    let l = c .before .before .before .before .before .before .before .before .before .before .before .before .before .loop in
-    let e = c .before .before .before .before .before .before .before .before .before .before .before .before .before .before .before .before .before .step .ensures in
-    let w : sweptBy (c .before .before .before .before .before .before .before .before .before .before .before .before .before .before .before .before .before .step .result) (a .self) ≡ record { seen = l .seen; balances = l .m .peripherals } =
-    rw (← c .before .before .before .before .before .before .before .before .before .before .before .before .before .before .before .start .ensures, ← c .before .before .before .before .before .before .before .before .before .before .before .before .before .before .before .before .new .ensures) (sweeping-all (a .self .parameters .«max_retry_limit») (a .self .occupied) (c .before .before .before .before .before .before .before .before .before .before .before .before .before .before .before .before .new .result) (a .self .peripherals) (c .before .before .before .before .before .before .before .before .before .before .before .before .before .before .before .start .result) (c .before .before .before .before .before .before .before .before .before .before .before .before .before .before .at-or-after .result) (c .before .before .before .before .before .before .before .before .before .before .before .before .before .before .at-or-after .ensures))
-    ∙ sweeping-ends (a .self .parameters .«max_retry_limit») (a .self .occupied) _ (a .self) (l .m) (l .seen) (l .i) (c .before .before .before .before .before .before .before .before .before .before .before .before .loop-test .left) (l .inv) in
-    rw (← e) (turn-accepted _ (c .before .before .before .before .before .before .before .before .before .before .before .before .before .before .before .before .before .step .result) _ (a .self) (a .time) (a .setup .now) (a .outputs .now) (a .buf .now) (l .seen) (l .m .peripherals) (c .before .before .before .before .fill .result) _ _ (sym (c .before .before .before .before .before .before .before .before .before .before .before .before .before .before .before .before .before .before .before .before .turn-refusal .ensures) ∙ c .before .before .before .before .before .before .before .before .before .before .before .before .before .before .before .before .before .before .before .if1 .left) w
-    (ap (stateIs (c .before .before .before .before .before .before .before .before .before .before .before .after-turn .result)) (l .inv .rest) ∙ rw (c .before .before .before .before .before .before .before .before .before .before .before .after-turn .ensures) refl)
-    (rw (c .before .before .before .before .before .before .before .before .index2 .ensures .0, c .before .before .before .before .before .before .is-clear .ensures) at (c .before .before .before .before .fill .ensures))
-    (c .of .ensures ∙ rw (c .before .address .ensures, c .before .before .before .before .before .before .before .before .before .before .index .ensures .0) refl))
+    let at-fill = c .before .before .before .before in
+    let at-is-clear = at-fill .before .before in
+    let at-index2 = at-is-clear .before .before in
+    let at-index = at-index2 .before .before in
+    let at-after-turn = at-index .before in
+    let at-loop-test = at-after-turn .before in
+    let at-loop = at-loop-test .before in
+    let at-at-or-after = at-loop .before in
+    let at-start = at-at-or-after .before in
+    let at-new = at-start .before in
+    let at-step = at-new .before in
+    let at-if1 = at-step .before .before in
+    let at-turn-refusal = at-if1 .before in
+    let at-start-2 = at-turn-refusal .before .before .before .before .before .before in
+    let a = at-start-2 .args in
+    let l = at-loop .loop in
+    let e = at-step .step .ensures in
+    let w : sweptBy (at-step .step .result) (a .self) ≡ record { seen = l .seen; balances = l .m .peripherals } =
+    rw (← at-start .start .ensures, ← at-new .new .ensures) (sweeping-all (a .self .parameters .«max_retry_limit») (a .self .occupied) (at-new .new .result) (a .self .peripherals) (at-start .start .result) (at-at-or-after .at-or-after .result) (at-at-or-after .at-or-after .ensures))
+    ∙ sweeping-ends (a .self .parameters .«max_retry_limit») (a .self .occupied) _ (a .self) (l .m) (l .seen) (l .i) (at-loop-test .loop-test .left) (l .inv) in
+    rw (← e) (turn-accepted _ (at-step .step .result) _ (a .self) (a .time) (a .setup .now) (a .outputs .now) (a .buf .now) (l .seen) (l .m .peripherals) (at-fill .fill .result) _ _ (sym (at-turn-refusal .turn-refusal .ensures) ∙ at-if1 .if1 .left) w
+    (ap (stateIs (at-after-turn .after-turn .result)) (l .inv .rest) ∙ rw (at-after-turn .after-turn .ensures) refl)
+    (rw (at-index2 .index2 .ensures .0, at-is-clear .is-clear .ensures) at (at-fill .fill .ensures))
+    (c .of .ensures ∙ rw (c .before .address .ensures, at-index .index .ensures .0) refl))
 
 pub transmit-telegram-spec : {M : Type 1} → statement M
 transmit-telegram-spec =
