@@ -1,32 +1,33 @@
 -- A handle that is refused or not, where a view lies, and an output write.
 -- The idea: the handle's number is 0 exactly where its slot is occupied, and a view's length is its range's where that lies in the pool.
 use mathlib.Core.Path.{_≡_, refl, sym, ap, _∙_}
-use mathlib.Core.Bool.{Bool, true, false, cond}
-use mathlib.Core.List.{List, []}
+use mathlib.Core.Bool.{Bool, true, false, not, cond}
+use mathlib.Core.List.{List, [], _∷_}
 use Prim.Native.Nat.{ℕ, _+_}
 use native.Mathlib.Omega.{arith}
 use lib.ListN.{length}
-use lib.Dec.{leb, eqb}
-use borrow.Author.Tests.{eq-eqb, ne-eqb}
+use lib.Dec.{leb}
+use borrow.Author.Tests.{ne-eqb}
 use denote.Ref.{RefT}
 use Rattle.parts.specs.Parts.{inside, View, viewAt, Itself, putIn}
 use Rattle.parts.proofs.Laws.{length-part, inside-leb}
+use Rattle.refusals.specs.Table.{writeRow, said, orElse}
+use Rattle.refusals.proofs.Laws.{both}
 use Rattle.peripheral.specs.declared.record.Peripheral.{Peripheral}
 use Rattle.peripheral.specs.Record.{blank}
 use Rattle.peripheral_set.specs.declared.PeripheralHandle.{PeripheralHandle}
 use Rattle.peripheral_set.specs.Marks.{isOccupied, handleRefusal}
-use Rattle.cycle.specs.Refusal.{unless, orElse}
 use Rattle.master.specs.declared.unit.DpMaster.{DpMaster}
 use Rattle.master.specs.Unit.{balanceAt}
 use Rattle.access.specs.declared.images.ImageRange.{ImageRange}
 use Rattle.access.specs.declared.lookup.Found.{Found}
-use Rattle.access.specs.Lookup.{foundIn, outputNumber, viewOf, rangeOf, writeRefusal, OutputsWritten}
+use Rattle.access.specs.Lookup.{foundIn, pooledRows, outputNumber, viewOf, rangeOf, writeRefusal, OutputsWritten}
 
-occupied-by : (b : Bool) → _≡_ {A = ℕ} (cond b 0 4) 0 → b ≡ true
+occupied-by : (b : Bool) → _≡_ {A = ℕ} (cond (not b) 4 0) 0 → b ≡ true
 occupied-by true e = refl
 occupied-by false e = absurd (omega arith)
 
-empty-by : (b : Bool) → (_≡_ {A = ℕ} (cond b 0 4) 0 → ⊥) → b ≡ false
+empty-by : (b : Bool) → (_≡_ {A = ℕ} (cond (not b) 4 0) 0 → ⊥) → b ≡ false
 empty-by true h = absurd (h refl)
 empty-by false h = refl
 
@@ -64,24 +65,24 @@ module _ (m : DpMaster) (h : PeripheralHandle) where
       rw (o, four, ep) refl
 
   module _ (bytes outputs : List ℕ) where
-    refused-by : (n : ℕ) → n ≡ outputNumber m h outputs → (n ≡ 0 → ⊥) → writeRefusal m h bytes outputs ≡ n
+    -- the pool and the handle, and then the length
+    in-two : writeRefusal m h bytes outputs ≡ orElse (outputNumber m h outputs) (said (writeRow (length bytes) (foundIn m h .ranges .«output_len»)))
     unfolding writeRefusal
-    refused-by n en z = rw (← en, ne-eqb n 0 z) refl
+    in-two = both (pooledRows (length outputs) (m .parameters .«output_pool») h (m .occupied)) (writeRow (length bytes) (foundIn m h .ranges .«output_len») ∷ []) refl
 
     pub write-refused : (n : ℕ) → n ≡ outputNumber m h outputs → (n ≡ 0 → ⊥) → OutputsWritten m h bytes outputs outputs n
-    write-refused n en z = let e = refused-by n en z in record { answer = sym e; pool = rw (e, ne-eqb n 0 z) refl }
+    unfolding orElse
+    write-refused n en z =
+        let e : writeRefusal m h bytes outputs ≡ n = in-two ∙ rw (← en, ne-eqb n 0 z) refl in
+        record { answer = sym e; pool = rw (e, ne-eqb n 0 z) refl }
 
-    accepted : (n : ℕ) → n ≡ outputNumber m h outputs → n ≡ 0 → writeRefusal m h bytes outputs ≡ unless (eqb (length bytes) (foundIn m h .ranges .«output_len»)) 11 0
-    unfolding writeRefusal
-    accepted n en z = rw (← en, z) refl
+    module _ (n k : ℕ) (en : n ≡ outputNumber m h outputs) (z : n ≡ 0) (ek : k ≡ orElse 0 (said (writeRow (length bytes) (foundIn m h .ranges .«output_len»)))) where
+      length-says : writeRefusal m h bytes outputs ≡ k
+      unfolding orElse
+      length-says = in-two ∙ rw (← en, z) (sym ek)
 
-    pub write-other : (n : ℕ) → n ≡ outputNumber m h outputs → n ≡ 0 → (length bytes ≡ foundIn m h .ranges .«output_len» → ⊥) → OutputsWritten m h bytes outputs outputs 11
-    write-other n en z d =
-        let e : writeRefusal m h bytes outputs ≡ 11 = accepted n en z ∙ rw (ne-eqb _ _ d) refl in
-        record { answer = sym e; pool = rw e refl }
+      pub write-other : (k ≡ 0 → ⊥) → OutputsWritten m h bytes outputs outputs k
+      write-other d = record { answer = sym length-says; pool = rw (length-says, ne-eqb k 0 d) refl }
 
-    pub write-done : (n : ℕ) (out : List ℕ) → n ≡ outputNumber m h outputs → n ≡ 0 → length bytes ≡ foundIn m h .ranges .«output_len»
-        → out ≡ putIn (foundIn m h .ranges .outputs) (foundIn m h .ranges .«output_len») bytes outputs → OutputsWritten m h bytes outputs out 0
-    write-done n out en z q eo =
-        let e : writeRefusal m h bytes outputs ≡ 0 = accepted n en z ∙ rw (eq-eqb _ _ q) refl in
-        record { answer = sym e; pool = rw e eo }
+      pub write-done : (out : List ℕ) → k ≡ 0 → out ≡ putIn (foundIn m h .ranges .outputs) (foundIn m h .ranges .«output_len») bytes outputs → OutputsWritten m h bytes outputs out 0
+      write-done out q eo = let e : writeRefusal m h bytes outputs ≡ 0 = length-says ∙ q in record { answer = sym e; pool = rw e eo }

@@ -5,6 +5,7 @@ ghost use Rattle.access.specs.Lookup.{pooledRefusal, inputNumber, output
 use crate::lookup::find;
 use master::unit::DpMaster;
 use peripheral_set::PeripheralHandle;
+use refusals::DONE;
 
 // The number, and where the image starts in its pool and how long it is; 0 and 0 when refused.
 pub struct ImageRange {
@@ -13,15 +14,16 @@ pub struct ImageRange {
     pub len: usize,
 }
 
-// 2 where the lent pool has another length than at creation, then the handle's number.
+// The lent pool, then the handle.
 pub fn pooled_refusal(m: DpMaster, handle: PeripheralHandle, lent: usize, pool: u16) -> u8
     ensures { λ r. ⌜ r ≡ pooledRefusal lent pool handle (m .occupied) ⌝ }
 {
-    if lent != parts::widen16(pool) {
-        return 2;
-    }
     let marks = m.occupied;
-    handle.refusal(marks)
+    let n = refusals::lent(DONE, lent, pool);
+    refusals::handle(
+        n,
+        peripheral_set::is_occupied(marks, parts::widen8(handle.slot)),
+    )
 }
 
 // The number of `pi_i`.
@@ -104,7 +106,7 @@ pub fn pi_q_range(m: DpMaster, handle: PeripheralHandle, outputs: &[u8]) -> Imag
     }
 }
 
-// The output image becomes `bytes`: 2, 4, and 11 where they are not as long as the image.
+// The output image becomes `bytes`: the lent pool, the handle, and the length.
 pub fn write_outputs(m: DpMaster, handle: PeripheralHandle, bytes: &[u8], outputs: &mut [u8]) -> u8
     ensures { λ r. ⌜ OutputsWritten m handle (now (bytes .entry)) (now (outputs .entry)) (now (outputs .exit)) r ⌝ }
 {
@@ -115,9 +117,10 @@ pub fn write_outputs(m: DpMaster, handle: PeripheralHandle, bytes: &[u8], output
     let f = find(m, handle);
     let p = f.peripheral;
     let len = parts::widen8(p.ranges.output_len);
-    if bytes.len() != len {
-        return 11;
+    let other = refusals::write(DONE, bytes.len(), len);
+    if other != DONE {
+        return other;
     }
     parts::copy_at(outputs, parts::widen16(p.ranges.outputs), len, bytes);
-    0
+    DONE
 }

@@ -5,6 +5,7 @@ ghost use Rattle.peripheral_set.specs.Marks.{slots, listed};
 ghost use Rattle.access.specs.Lookup.{entryAt};
 use master::unit::DpMaster;
 use peripheral_set::Entry;
+use peripheral_set::PeripheralHandle;
 use peripheral_set::SLOTS;
 
 pub fn count(m: DpMaster) -> usize
@@ -28,9 +29,10 @@ pub fn entry(m: DpMaster, n: usize) -> Entry
             running: p.is_running(),
         };
     }
+    let none = PeripheralHandle::none();
     Entry {
-        slot: 255,
-        address: 255,
+        slot: none.slot,
+        address: none.address,
         running: false,
     }
 }

@@ -23,7 +23,10 @@ last-diagnostics-requires c κs = search needs
 
 returns-2 : tie.Need-returns-2
 returns-2 c =
-    rw (← c .before .before .before .before .pooled-refusal .ensures, c .before .before .before .if1 .left, c .last-diagnostics .ensures, c .before .before .find .ensures) refl
+    let at-find = c .before .before in
+    let at-if1 = at-find .before in
+    let at-pooled-refusal = at-if1 .before in
+    rw (← at-pooled-refusal .pooled-refusal .ensures, at-if1 .if1 .left, c .last-diagnostics .ensures, at-find .find .ensures) refl
 
 pub last-diagnostics-spec : {M : Type 1} → statement M
 last-diagnostics-spec =

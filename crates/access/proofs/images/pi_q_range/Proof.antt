@@ -26,15 +26,25 @@ inside-requires c κs = search needs
 
 returns-2 : tie.Need-returns-2
 returns-2 c =
-    let f = c .before .before .before .before .before in
-    rw (← f .before .before .pooled-refusal .ensures, f .before .if1 .left)
-    (range-in _ _ (f .before .before .before .before .args .outputs .now) _ _ (rw (f .find .ensures) at (c .before .before .before .widen16 .ensures .0)) (rw (f .find .ensures) at (c .before .before .widen8 .ensures .0)) _ (c .before .inside .ensures) (c .if2 .taken))
+    let at-widen8 = c .before .before in
+    let at-widen16 = at-widen8 .before in
+    let f = at-widen16 .before .before in
+    let at-if1 = f .before in
+    let at-pooled-refusal = at-if1 .before in
+    let at-start = at-pooled-refusal .before .before in
+    rw (← at-pooled-refusal .pooled-refusal .ensures, at-if1 .if1 .left)
+    (range-in _ _ (at-start .args .outputs .now) _ _ (rw (f .find .ensures) at (at-widen16 .widen16 .ensures .0)) (rw (f .find .ensures) at (at-widen8 .widen8 .ensures .0)) _ (c .before .inside .ensures) (c .if2 .taken))
 
 returns-3 : tie.Need-returns-3
 returns-3 c =
-    let f = c .before .before .before .before .before in
-    rw (← f .before .before .pooled-refusal .ensures, f .before .if1 .left)
-    (range-out _ _ (f .before .before .before .before .args .outputs .now) _ _ (rw (f .find .ensures) at (c .before .before .before .widen16 .ensures .0)) (rw (f .find .ensures) at (c .before .before .widen8 .ensures .0)) _ (c .before .inside .ensures) (c .if2 .left))
+    let at-widen8 = c .before .before in
+    let at-widen16 = at-widen8 .before in
+    let f = at-widen16 .before .before in
+    let at-if1 = f .before in
+    let at-pooled-refusal = at-if1 .before in
+    let at-start = at-pooled-refusal .before .before in
+    rw (← at-pooled-refusal .pooled-refusal .ensures, at-if1 .if1 .left)
+    (range-out _ _ (at-start .args .outputs .now) _ _ (rw (f .find .ensures) at (at-widen16 .widen16 .ensures .0)) (rw (f .find .ensures) at (at-widen8 .widen8 .ensures .0)) _ (c .before .inside .ensures) (c .if2 .left))
 
 pub pi-q-range-spec : {M : Type 1} → statement M
 pi-q-range-spec =

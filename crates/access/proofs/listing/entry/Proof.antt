@@ -14,8 +14,8 @@ mul-p c = search needs
 element-copy-out-p : tie.Need-element-copy-out-p
 element-copy-out-p c = search needs
 
-cast-t12 : tie.Need-cast-t12
-cast-t12 c = search needs
+cast-t13 : tie.Need-cast-t13
+cast-t13 c = search needs
 
 address-requires : tie.Need-address-requires
 address-requires c κs = search needs
@@ -27,9 +27,12 @@ returns : tie.Need-returns
 returns c =
     rw (← c .before .before .before .before .nth .ensures, lt-ltb _ _ (c .before .before .before .if1 .taken), c .before .address .ensures, c .is-running .ensures) refl
 
+none-requires : tie.Need-none-requires
+none-requires c κs = search needs
+
 returns-2 : tie.Need-returns-2
 returns-2 c =
-    rw (← c .before .nth .ensures, le-ltb _ _ (c .if1 .left)) refl
+    rw (← c .before .before .nth .ensures, le-ltb _ _ (c .before .if1 .left), c .none .ensures) refl
 
 pub entry-spec : {M : Type 1} → statement M
 entry-spec =
@@ -38,8 +41,9 @@ entry-spec =
     nth-requires
     mul-p
     element-copy-out-p
-    cast-t12
+    cast-t13
     address-requires
     is-running-requires
     returns
+    none-requires
     returns-2)

@@ -13,7 +13,9 @@ blank-requires c κs = search needs
 
 returns : tie.Need-returns
 returns c =
-    let a = c .before .before .before .before .args in missing (a .t1) (a .handle) (c .blank .result) (c .before .before .refusal .result) (c .before .before .refusal .ensures) (c .before .if1 .taken) (c .blank .ensures)
+    let at-refusal = c .before .before in
+    let at-start = at-refusal .before .before in
+    let a = at-start .args in missing (a .t1) (a .handle) (c .blank .result) (at-refusal .refusal .result) (at-refusal .refusal .ensures) (c .before .if1 .taken) (c .blank .ensures)
 
 index-requires : tie.Need-index-requires
 index-requires c κs = search needs
@@ -26,7 +28,10 @@ element-copy-out-p c = search needs
 
 returns-2 : tie.Need-returns-2
 returns-2 c =
-    let a = c .before .before .before .before .before .args in found (a .t1) (a .handle) _ (c .before .before .before .refusal .result) (c .before .before .before .refusal .ensures) (c .before .before .if1 .left) (rw (c .before .index .ensures .0) refl)
+    let at-if1 = c .before .before in
+    let at-refusal = at-if1 .before in
+    let at-start = at-refusal .before .before in
+    let a = at-start .args in found (a .t1) (a .handle) _ (at-refusal .refusal .result) (at-refusal .refusal .ensures) (at-if1 .if1 .left) (rw (c .before .index .ensures .0) refl)
 
 pub find-spec : {M : Type 1} → statement M
 find-spec =
