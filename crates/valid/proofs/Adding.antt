@@ -1,5 +1,5 @@
 -- An add keeps a unit valid.
--- The idea: the new ranges start where the used parts end, so they are apart from every other and inside the new used parts.
+-- The idea: the new ranges lie in their pools since no row of the table applied; they start where the used parts end, so they are apart from every other.
 use mathlib.Core.Path.{_≡_, refl, sym, _∙_, subst}
 use mathlib.Core.Bool.{true, false, false≢true}
 use mathlib.Core.Logic.{_⊎_, inl, inr, ⊎-elim}
@@ -12,83 +12,67 @@ use lib.Dec.{eqb}
 use borrow.Author.Tests.{eqb-true, eqb-false, not-true}
 use Rattle.parts.proofs.Laws.{by-test}
 use Rattle.peripheral.specs.declared.record.Peripheral.{Peripheral}
-use Rattle.peripheral.specs.Record.{blank, newBalance}
+use Rattle.peripheral.specs.Record.{blank}
 use Rattle.peripheral_set.specs.Marks.{slots, firstEmpty}
 use Rattle.peripheral_set.proofs.Laws.{search-found}
-use Rattle.cycle.specs.declared.refusal.Lent.{Lent}
 use Rattle.cycle.specs.declared.refusal.Lengths.{Lengths}
-use Rattle.cycle.specs.Refusal.{addressRefusal, lengthRefusal, roomRefusal, addRefusal}
-use Rattle.master.proofs.Checks.{add-slot, add-address, add-lengths, add-room}
-use Rattle.cycle.proofs.Laws.{user-fits, config-fits, inputs-fit, outputs-fit, room-fits, setup-room, input-room, output-room, diag-room}
+use Rattle.cycle.specs.Refusal.{addressRefusal, lengthRefusal}
+use Rattle.cycle.proofs.Laws.{user-fits, config-fits, inputs-fit, outputs-fit, room-fits, add-slot, add-address, add-lengths}
 use Rattle.master.specs.declared.unit.DpMaster.{DpMaster}
 use Rattle.master.specs.declared.add.Addition.{Addition}
 use Rattle.master.specs.declared.add.Added.{Added}
-use Rattle.master.specs.Add.{rangesAt, usedAfter, optionsHeld, unitAdded, lengthsOf, refusalOf, Adding}
-use Rattle.valid.specs.Valid.{Sound, Placed, Apart, Fits, Valid, occupied, balance}
+use Rattle.master.specs.Pools.{Pools, lentOf}
+use Rattle.master.specs.Add.{newcomer, roomRefusal, usedAfter, unitAdded, lengthsOf, refusalOf, Adding}
+use Rattle.master.proofs.Checks.{setup-room, input-room, output-room, diag-room, add-passed, room-passed}
+use Rattle.valid.specs.Valid.{Sound, Placed, Apart, Before, Fits, Valid, occupied, balance}
 use Rattle.valid.proofs.Stations.{sound-new}
 use Rattle.valid.proofs.Balances.{standing-kept}
 
 module _ (m : DpMaster) (a : Addition) (l : Lengths) (v : Valid m) where
-  slot : ℕ
+  abbrev slot : ℕ
   slot = firstEmpty (m .occupied)
 
-  fresh : Peripheral
-  fresh = newBalance (a .address) (optionsHeld (a .options) l) (rangesAt (m .used) l)
+  abbrev fresh : Peripheral
+  fresh = newcomer m a l
+
+  abbrev after : DpMaster
+  after = unitAdded m (newcomer m a l)
 
   module _ (b : firstEmpty (m .occupied) < slots) (al : lengthRefusal l ≡ 0) where
-    was-empty : getD (m .occupied) (firstEmpty (m .occupied)) false ≡ false
+    was-empty : getD (m .occupied) slot false ≡ false
     was-empty = not-true _ (search-found slots false (m .occupied) slots 0 b)
 
     -- every slot is the new one, or is as it was
-    which : (i : ℕ) → ((i ≡ slot) × (occupied (unitAdded m a l) i) × (balance (unitAdded m a l) i ≡ fresh))
-        ⊎ ((i ≡ slot → ⊥) × (getD (unitAdded m a l .occupied) i false ≡ getD (m .occupied) i false) × (balance (unitAdded m a l) i ≡ balance m i))
-    unfolding slot fresh
+    which : (i : ℕ) → ((i ≡ slot) × (occupied after i) × (balance after i ≡ fresh))
+        ⊎ ((i ≡ slot → ⊥) × (getD (after .occupied) i false ≡ getD (m .occupied) i false) × (balance after i ≡ balance m i))
     which i =
-        by-test (eqb i (firstEmpty (m .occupied)))
+        by-test (eqb i slot)
         (λ e.
-        let w : i ≡ firstEmpty (m .occupied) = eqb-true i (firstEmpty (m .occupied)) e in
-        inl (w, rw (w, getD-set-same (m .occupied) (firstEmpty (m .occupied)) true false (omega (arith, v .marks))) refl, rw (w, getD-set-same (m .peripherals) (firstEmpty (m .occupied)) fresh blank (omega (arith, v .table))) refl))
-        (λ e.
-        let d = eqb-false i (firstEmpty (m .occupied)) e in
-        inr (d, getD-set-other (m .occupied) (firstEmpty (m .occupied)) i true false d, getD-set-other (m .peripherals) (firstEmpty (m .occupied)) i fresh blank d))
+        let w : i ≡ slot = eqb-true i slot e in
+        inl (w, rw (w, getD-set-same (m .occupied) slot true false (omega (arith, v .marks))) refl, rw (w, getD-set-same (m .peripherals) slot fresh blank (omega (arith, v .table))) refl))
+        (λ e. let d = eqb-false i slot e in inr (d, getD-set-other (m .occupied) slot i true false d, getD-set-other (m .peripherals) slot i fresh blank d))
 
     -- what holds of the new balance and of each that was there holds of each that is there
-    each : (P : Peripheral → Type 0) (i : ℕ) → occupied (unitAdded m a l) i → (i ≡ slot → P fresh) → ((i ≡ slot → ⊥) → occupied m i → P (balance m i)) → P (balance (unitAdded m a l) i)
+    each : (P : Peripheral → Type 0) (i : ℕ) → occupied after i → (i ≡ slot → P fresh) → ((i ≡ slot → ⊥) → occupied m i → P (balance m i)) → P (balance after i)
     each P i o new old = ⊎-elim (λ w. subst P (sym (w .2)) (new (w .0))) (λ w. subst P (sym (w .2)) (old (w .0) (sym (w .1) ∙ o))) (which i)
 
-    old-placed : (p : Peripheral) → Placed (m .used) p → Placed (usedAfter (m .used) l) p
-    old-placed p g =
-        record {
-          user = g .user;
-          config = g .config;
-          inputs = g .inputs;
-          outputs = g .outputs;
-          room = g .room;
-          noUser = g .noUser;
-          noConfig = g .noConfig;
-          setupEnd = omega (arith, g .setupEnd);
-          inputEnd = omega (arith, g .inputEnd);
-          outputEnd = omega (arith, g .outputEnd);
-          diagEnd = omega (arith, g .diagEnd);
-        }
+    -- the used parts grow
+    old-before : (p : Peripheral) → Before p (m .used) → Before p (usedAfter fresh)
+    old-before p g = record { setup = omega (arith, g .setup); inputs = omega (arith, g .inputs); outputs = omega (arith, g .outputs); diags = omega (arith, g .diags) }
 
-    new-apart : (p : Peripheral) → Placed (m .used) p → Apart fresh p
-    unfolding fresh
-    new-apart p g = record { setup = inr (g .setupEnd); inputs = inr (g .inputEnd); outputs = inr (g .outputEnd); diags = inr (g .diagEnd) }
+    new-apart : (p : Peripheral) → Before p (m .used) → Apart fresh p
+    new-apart p g = record { setup = inr (g .setup); inputs = inr (g .inputs); outputs = inr (g .outputs); diags = inr (g .diags) }
 
-    apart-new : (p : Peripheral) → Placed (m .used) p → Apart p fresh
-    unfolding fresh
-    apart-new p g = record { setup = inl (g .setupEnd); inputs = inl (g .inputEnd); outputs = inl (g .outputEnd); diags = inl (g .diagEnd) }
+    apart-new : (p : Peripheral) → Before p (m .used) → Apart p fresh
+    apart-new p g = record { setup = inl (g .setup); inputs = inl (g .inputs); outputs = inl (g .outputs); diags = inl (g .diags) }
 
     -- the slot of an open request was occupied, so it is another
-    still-asked : (t k : ℕ) → occupied m t → Fits (balance m t .station) k → (occupied (unitAdded m a l) t) × Fits (balance (unitAdded m a l) t .station) k
-    unfolding slot
+    still-asked : (t k : ℕ) → occupied m t → Fits (balance m t .station) k → (occupied after t) × Fits (balance after t .station) k
     still-asked t k o f =
         ⊎-elim (λ w. absurd (false≢true (sym was-empty ∙ subst (occupied m) (w .0) o))) (λ w. (w .1 ∙ o, subst (λ (p : Peripheral). Fits (p .station) k) (sym (w .2)) f)) (which t)
 
-    module _ (user : a .options .«has_user_parameters» ≡ false → l .user ≡ 0) (config : a .options .«has_config» ≡ false → l .config ≡ 0) where
-      new-placed : Placed (usedAfter (m .used) l) fresh
-      unfolding fresh
+    module _ (user : a .options .«has_user_parameters» ≡ false → l .user ≡ 0) (config : a .options .«has_config» ≡ false → l .config ≡ 0) (ar : roomRefusal (m .parameters) (newcomer m a l) ≡ 0) where
+      new-placed : Placed (m .parameters) fresh
       new-placed =
           record {
             user = user-fits l al;
@@ -98,41 +82,46 @@ module _ (m : DpMaster) (a : Addition) (l : Lengths) (v : Valid m) where
             room = room-fits l al;
             noUser = user;
             noConfig = config;
-            setupEnd = omega arith;
-            inputEnd = omega arith;
-            outputEnd = omega arith;
-            diagEnd = omega arith;
+            setupEnd = setup-room (m .parameters) fresh ar;
+            inputEnd = input-room (m .parameters) fresh ar;
+            outputEnd = output-room (m .parameters) fresh ar;
+            diagEnd = diag-room (m .parameters) fresh ar;
           }
 
-      added : addressRefusal (m .parameters) (a .address) ≡ 0 → roomRefusal (m .parameters) (m .used) l ≡ 0 → Valid (unitAdded m a l)
-      unfolding slot fresh
-      added aa ar =
+      added : addressRefusal (m .parameters) (a .address) ≡ 0 → Valid after
+      added aa =
+          let n = new-placed in
           record {
             parameters = v .parameters;
             marks = simp length-set (v .marks);
             table = simp length-set (v .table);
-            within = record { setup = setup-room (m .parameters) (m .used) l ar; inputs = input-room (m .parameters) (m .used) l ar; outputs = output-room (m .parameters) (m .used) l ar; diags = diag-room (m .parameters) (m .used) l ar };
             sound = λ i o. each (λ (p : Peripheral). Sound (m .parameters .«max_retry_limit») (p .ranges .«diag_room») (p .station)) i o (λ e. sound-new (a .address) (m .parameters .«max_retry_limit») (l .room)) (λ d q. v .sound i q);
             address = λ i o. each (λ (p : Peripheral). addressRefusal (m .parameters) (p .station .address) ≡ 0) i o (λ e. aa) (λ d q. v .address i q);
-            placed = λ i o. each (Placed (usedAfter (m .used) l)) i o (λ e. new-placed) (λ d q. old-placed (balance m i) (v .placed i q));
+            placed = λ i o. each (Placed (m .parameters)) i o (λ e. n) (λ d q. v .placed i q);
             apart = λ i j o r d.
-                each (λ (p : Peripheral). Apart p (balance (unitAdded m a l) j)) i o
-                (λ e. each (Apart fresh) j r (λ f. absurd (d (e ∙ sym f))) (λ f q. new-apart (balance m j) (v .placed j q)))
-                (λ e p. each (Apart (balance m i)) j r (λ f. apart-new (balance m i) (v .placed i p)) (λ f q. v .apart i j p q d));
+                each (λ (p : Peripheral). Apart p (balance after j)) i o
+                (λ e. each (Apart fresh) j r (λ f. absurd (d (e ∙ sym f))) (λ f q. new-apart (balance m j) (v .used j q)))
+                (λ e p. each (Apart (balance m i)) j r (λ f. apart-new (balance m i) (v .used i p)) (λ f q. v .apart i j p q d));
+            within = record { setup = n .setupEnd; inputs = n .inputEnd; outputs = n .outputEnd; diags = n .diagEnd };
+            used = λ i o.
+                each (λ (p : Peripheral). Before p (usedAfter fresh)) i o
+                (λ e. record { setup = omega arith; inputs = omega arith; outputs = omega arith; diags = omega arith })
+                (λ d q. old-before (balance m i) (v .used i q));
             empty = λ i e. ⊎-elim (λ w. absurd (false≢true (sym e ∙ w .1))) (λ w. w .2 ∙ v .empty i (sym (w .1) ∙ e)) (which i);
-            standing = standing-kept m (usedAfter (m .used) l) (unitAdded m a l .occupied) (unitAdded m a l .peripherals) (v .standing) (still-asked (m .state .«open_slot») (m .state .«open_kind»));
+            standing = standing-kept m (usedAfter fresh) (after .occupied) (after .peripherals) (v .standing) (still-asked (m .state .«open_slot») (m .state .«open_kind»));
           }
 
-pub add-valid : (m : DpMaster) (a : Addition) (user config setup inputs outputs diags outSetup outInputs outOutputs outDiags : List ℕ) (r : Added)
-    → Adding m a user config setup inputs outputs diags outSetup outInputs outOutputs outDiags r → Valid m → Valid (r .master)
-add-valid m a user config setup inputs outputs diags outSetup outInputs outOutputs outDiags r c v =
+pub add-valid : (m : DpMaster) (a : Addition) (user config : List ℕ) (pools out : Pools) (r : Added) → Adding m a user config pools out r → Valid m → Valid (r .master)
+add-valid m a user config pools out r c v =
     let l = lengthsOf a user config in
-    let lent : Lent = record { setup = length setup; inputs = length inputs; outputs = length outputs; diags = length diags } in
-    let n = refusalOf m a l setup inputs outputs diags in
+    let n = refusalOf m a l pools in
     by-test (eqb n 0)
     (λ e.
-    let z : addRefusal (m .parameters) (m .used) lent (firstEmpty (m .occupied)) (a .address) l ≡ 0 = eqb-true n 0 e in
+    let z = eqb-true n 0 e in
+    let q = add-passed m a l pools z in
+    let u = m .parameters in
+    let s = firstEmpty (m .occupied) in
     subst Valid (sym (c .after ∙ rw e refl))
-    (added m a l v (add-slot (m .parameters) (m .used) lent (firstEmpty (m .occupied)) (a .address) l z) (add-lengths (m .parameters) (m .used) lent (firstEmpty (m .occupied)) (a .address) l z) (λ f. rw f refl) (λ f. rw f refl)
-    (add-address (m .parameters) (m .used) lent (firstEmpty (m .occupied)) (a .address) l z) (add-room (m .parameters) (m .used) lent (firstEmpty (m .occupied)) (a .address) l z)))
+    (added m a l v (add-slot u (lentOf pools) s (a .address) l q) (add-lengths u (lentOf pools) s (a .address) l q) (λ f. rw f refl) (λ f. rw f refl) (room-passed m a l pools z)
+    (add-address u (lentOf pools) s (a .address) l q)))
     (λ e. subst Valid (sym (c .after ∙ rw e refl)) v)

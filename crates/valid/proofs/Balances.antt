@@ -17,12 +17,12 @@ use Rattle.station.specs.State.{stateOf}
 use Rattle.peripheral.specs.declared.record.Peripheral.{Peripheral}
 use Rattle.peripheral.specs.Record.{blank, stationIs}
 use Rattle.peripheral_set.specs.Marks.{slots}
-use Rattle.cycle.specs.declared.refusal.Used.{Used}
 use Rattle.cycle.specs.declared.state.DpMasterState.{DpMasterState}
 use Rattle.cycle.specs.Refusal.{addressRefusal}
 use Rattle.master.specs.declared.unit.DpMaster.{DpMaster}
+use Rattle.master.specs.declared.unit.Used.{Used}
 use Rattle.master.specs.Unit.{stateIs, balancesAre}
-use Rattle.valid.specs.Valid.{Sound, Placed, Apart, Fits, Opened, Standing, balance, occupied, Valid}
+use Rattle.valid.specs.Valid.{Sound, Placed, Apart, Before, Fits, Opened, Standing, balance, occupied, Valid}
 use Rattle.valid.proofs.Stations.{kind-among}
 
 -- ---- a balance that went on
@@ -56,8 +56,8 @@ module _ (u : Parameters) (there : Bool) where
   next-station p s o a g = record { ranges = refl; options = refl; address = a; sound = g; empty = λ e. absurd (false≢true (sym e ∙ o)) }
 
 module _ (p q : Peripheral) (er : q .ranges ≡ p .ranges) (eo : q .options ≡ p .options) where
-  pub placed-same : (used : Used) → Placed used p → Placed used q
-  placed-same used g =
+  pub placed-same : (u : Parameters) → Placed u p → Placed u q
+  placed-same u g =
       record {
         user = rw eo (g .user);
         config = rw eo (g .config);
@@ -71,6 +71,9 @@ module _ (p q : Peripheral) (er : q .ranges ≡ p .ranges) (eo : q .options ≡ 
         outputEnd = rw er (g .outputEnd);
         diagEnd = rw er (g .diagEnd);
       }
+
+  pub before-same : (used : Used) → Before p used → Before q used
+  before-same used g = record { setup = rw (er, eo) (g .setup); inputs = rw er (g .inputs); outputs = rw er (g .outputs); diags = rw er (g .diags) }
 
   module _ (r s : Peripheral) (fr : s .ranges ≡ r .ranges) (fo : s .options ≡ r .options) where
     pub apart-same : Apart p r → Apart q s
@@ -110,9 +113,10 @@ module _ (m : DpMaster) (v : Valid m) where
         marks = v .marks;
         table = n;
         within = v .within;
+        used = λ i o. before-same (getD (m .peripherals) i blank) (getD qs i blank) (f i .ranges) (f i .options) (m .used) (v .used i o);
         sound = λ i o. f i .sound (v .sound i o);
         address = λ i o. f i .address (v .address i o);
-        placed = λ i o. placed-same (getD (m .peripherals) i blank) (getD qs i blank) (f i .ranges) (f i .options) (m .used) (v .placed i o);
+        placed = λ i o. placed-same (getD (m .peripherals) i blank) (getD qs i blank) (f i .ranges) (f i .options) (m .parameters) (v .placed i o);
         apart = λ i j o r d. apart-same (getD (m .peripherals) i blank) (getD qs i blank) (f i .ranges) (f i .options) (getD (m .peripherals) j blank) (getD qs j blank) (f j .ranges) (f j .options) (v .apart i j o r d);
         empty = λ i e. f i .empty e ∙ v .empty i e;
         standing = st;

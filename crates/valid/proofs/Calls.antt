@@ -1,7 +1,7 @@
 -- Creation gives a valid unit, and entering a state, a wish and a reset keep it so.
 -- The idea: each of them replaces the state, or one balance by one with the same ranges.
 use mathlib.Core.Path.{_≡_, refl, sym, _∙_}
-use mathlib.Core.Bool.{Bool, true, false, false≢true, cond}
+use mathlib.Core.Bool.{Bool, true, false, not, false≢true, cond}
 use mathlib.Core.Logic.{inl, inr, ⊎-elim}
 use Prim.Native.Nat.{ℕ, _≤_, _<_}
 use native.Mathlib.Omega.{arith}
@@ -11,7 +11,7 @@ use lib.Dec.{eqb, ltb}
 use borrow.Author.Tests.{eqb-true, eqb-false, ltb-true, ltb-false, lt-ltb}
 use Rattle.parts.proofs.Laws.{by-test, and-left, and-right}
 use Rattle.fdl.specs.declared.parameters.Parameters.{Parameters}
-use Rattle.fdl.specs.Params.{inRange, inForce, lowest}
+use Rattle.fdl.specs.Params.{creationRefusal, inForce, lowest}
 use Rattle.station.specs.State.{stateOf}
 use Rattle.station.specs.Record.{newStation, dueIs}
 use Rattle.peripheral.specs.declared.record.Peripheral.{Peripheral}
@@ -21,12 +21,12 @@ use Rattle.peripheral_set.specs.Marks.{slots, isOccupied, handleRefusal}
 use Rattle.cycle.specs.declared.state.OperatingState.{OperatingState}
 use Rattle.cycle.specs.declared.state.OperatingState.the-variants.{Stop, Clear, Operate}
 use Rattle.cycle.specs.Seen.{indexOf}
-use Rattle.cycle.specs.State.{operatingNumber, entered, placed, closedFor}
+use Rattle.cycle.specs.State.{operatingNumber, entered, closed, closedFor}
 use Rattle.cycle.specs.Refusal.{addressRefusal}
-use Rattle.cycle.proofs.Laws.{or-first, or-then}
 use Rattle.master.specs.declared.unit.DpMaster.{DpMaster}
 use Rattle.master.specs.Unit.{emptyUnit, createdOf, stateIs, balancesAre}
 use Rattle.master.specs.Handle.{resetRefusal, resetDone, wishDone}
+use Rattle.master.proofs.Checks.{reset-handle, reset-address}
 use Rattle.valid.specs.Valid.{InForce, Standing, Valid, occupied}
 use Rattle.valid.proofs.Stations.{sound-new, sound-due, fits-due}
 use Rattle.valid.proofs.Balances.{next-same, next-station, valid-on, valid-set, marked-below, standing-kept}
@@ -50,22 +50,24 @@ valid-empty u h =
       address = λ i o. absurd (false≢true (sym (same-of slots false i) ∙ o));
       placed = λ i o. absurd (false≢true (sym (same-of slots false i) ∙ o));
       apart = λ i j o. absurd (false≢true (sym (same-of slots false i) ∙ o));
+      used = λ i o. absurd (false≢true (sym (same-of slots false i) ∙ o));
       empty = λ i e. same-of slots blank i;
       standing = record { operating = omega arith; place = omega arith; times = omega arith; request = inl (record { slot = refl; kind = refl }) };
     }
 
-held-held : (u : Parameters) → inRange u ≡ true → InForce (inForce u)
-unfolding inRange inForce
+held-held : (u : Parameters) → creationRefusal u ≡ 0 → InForce (inForce u)
+unfolding creationRefusal inForce
 held-held u r = record { range = r; first = λ e. rw e refl; second = λ e. rw e refl }
 
 lowest-held : InForce lowest
-unfolding inRange lowest
+unfolding creationRefusal lowest
 lowest-held = record { range = refl; first = λ e. refl; second = λ e. refl }
 
 -- a refused creation too
 pub created-valid : (u : Parameters) → Valid (createdOf u .master)
 unfolding createdOf
-created-valid u = by-test (inRange u) (λ r. rw r (valid-empty (inForce u) (held-held u r))) (λ r. rw r (valid-empty lowest lowest-held))
+created-valid u =
+    let n = creationRefusal u in by-test (eqb n 0) (λ r. rw r (valid-empty (inForce u) (held-held u (eqb-true n 0 r)))) (λ r. rw r (valid-empty lowest lowest-held))
 
 -- ---- entering a state
 
@@ -88,7 +90,7 @@ enter-valid m o v =
 -- ---- a handle that is not refused
 
 module _ (m : DpMaster) (h : PeripheralHandle) where
-  is-there : (b : Bool) → _≡_ {A = ℕ} (cond b 0 4) 0 → b ≡ true
+  is-there : (b : Bool) → _≡_ {A = ℕ} (cond (not b) 4 0) 0 → b ≡ true
   is-there true e = refl
   is-there false e = absurd (omega arith)
 
@@ -130,7 +132,7 @@ wish-valid m h v =
 
 -- b: the open request is that slot's, and is closed; otherwise it is another's, and stays
 reset-standing : (m : DpMaster) (k : ℕ) (q : Peripheral) (b : Bool) → eqb (m .state .«open_slot») k ≡ b → Standing m
-    → let s = m .state in Standing (stateIs (cond b (placed (s .slot) (s .completed) 0 0 s) s) (balancesAre (set (m .peripherals) k q) m))
+    → let s = m .state in Standing (stateIs (cond b (closed s) s) (balancesAre (set (m .peripherals) k q) m))
 reset-standing m k q true e g = record { operating = g .operating; place = g .place; times = g .times; request = inl (record { slot = refl; kind = refl }) }
 reset-standing m k q false e g =
     let t = m .state .«open_slot» in
@@ -150,6 +152,6 @@ reset-valid m h address v =
     by-test (eqb (resetRefusal (m .parameters) (m .occupied) h address) 0)
     (λ e.
     let n = eqb-true (resetRefusal (m .parameters) (m .occupied) h address) 0 e in
-    let z = or-first (handleRefusal h (m .occupied)) (addressRefusal (m .parameters) address) n in
-    rw (e, index-is m h z) (reset-changed m (h .slot) address v (handle-there m h z) (or-then (handleRefusal h (m .occupied)) (addressRefusal (m .parameters) address) n)))
+    let z = reset-handle (m .parameters) (m .occupied) h address n in
+    rw (e, index-is m h z) (reset-changed m (h .slot) address v (handle-there m h z) (reset-address (m .parameters) (m .occupied) h address n)))
     (λ e. rw e v)

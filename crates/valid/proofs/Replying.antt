@@ -1,17 +1,16 @@
 -- A reply keeps a unit valid.
 -- The idea: an accepted reply has its request open at an occupied slot, and puts back a balance with the same ranges.
 use mathlib.Core.Path.{_≡_, refl, sym, _∙_, subst}
-use mathlib.Core.Bool.{true, false, not}
+use mathlib.Core.Bool.{true, false}
 use mathlib.Core.Logic.{inl}
 use mathlib.Core.List.{List}
-use Prim.Native.Nat.{ℕ, _≤_, _<_}
+use Prim.Native.Nat.{ℕ, _≤_}
 use native.Mathlib.Omega.{arith}
 use lib.ListN.{length, getD, set, drop}
 use lib.Dec.{eqb, ltb}
-use borrow.Author.Tests.{eqb-true, ltb-true, lt-ltb, not-true}
+use borrow.Author.Tests.{eqb-true, ltb-true, lt-ltb}
 use Rattle.parts.specs.Parts.{roomFor}
 use Rattle.parts.proofs.Laws.{by-test, room-new}
-use Rattle.fdl.specs.Reply.{usableReply}
 use Rattle.fdl.specs.declared.telegram.Telegram.{Telegram}
 use Rattle.payloads.specs.Diagnosis.{taken, diagnosisOf, extended}
 use Rattle.station.specs.Record.{tookOf}
@@ -21,8 +20,8 @@ use Rattle.peripheral.specs.Reply.{storedLength, stationTook, isImage, withHear
 use Rattle.peripheral_set.specs.Marks.{slots, nextAfter}
 use Rattle.cycle.specs.Seen.{indexOf}
 use Rattle.cycle.specs.State.{answered}
-use Rattle.cycle.specs.Refusal.{unless, replyRefusal}
-use Rattle.cycle.proofs.Laws.{passed, after}
+use Rattle.cycle.specs.Refusal.{replyRefusal}
+use Rattle.cycle.proofs.Laws.{reply-open, reply-slot}
 use Rattle.master.specs.declared.unit.DpMaster.{DpMaster}
 use Rattle.master.specs.declared.reply.Answered.{Answered}
 use Rattle.master.specs.Unit.{stateIs, balancesAre}
@@ -52,12 +51,6 @@ taken-held : (payload : List ℕ) → diagnosisOf payload .held ≡ true
 unfolding diagnosisOf
 taken-held payload = refl
 
-two : _≡_ {A = ℕ} 2 0 → ⊥
-two e = omega arith
-
-nine : _≡_ {A = ℕ} 9 0 → ⊥
-nine e = omega arith
-
 module _ (m : DpMaster) (t : Telegram) (payload inputs diags : List ℕ) (v : Valid m) where
   put-back : (k next : ℕ) → occupied m k
       → Valid (stateIs (answered next (m .state)) (balancesAre (set (m .peripherals) k (withHeard (getD (m .peripherals) k blank) (hearsOf t (getD (m .peripherals) k blank) payload inputs diags) .peripheral)) m))
@@ -76,21 +69,11 @@ module _ (m : DpMaster) (t : Telegram) (payload inputs diags : List ℕ) (v : Va
       (next-standing m next _ (v .standing))
 
   module _ (asked address : ℕ) (z : replyRefusal (m .parameters) (m .state) asked address t (length payload) (length inputs) (length diags) ≡ 0) where
-    past-pools : unless (not (eqb (m .state .«open_kind») 0)) 9 (unless (ltb (m .state .«open_slot») slots) 9 (unless (eqb address asked) 9 (unless (usableReply t (length payload)) 10 0))) ≡ 0
-    unfolding replyRefusal
-    past-pools = after (eqb (length diags) (m .parameters .«diag_pool»)) 2 _ two (after (eqb (length inputs) (m .parameters .«input_pool»)) 2 _ two z)
-
-    is-open : not (eqb (m .state .«open_kind») 0) ≡ true
-    is-open = passed (not (eqb (m .state .«open_kind») 0)) 9 _ nine past-pools
-
-    below : m .state .«open_slot» < slots
-    below = ltb-true _ _ (passed (ltb (m .state .«open_slot») slots) 9 _ nine (after (not (eqb (m .state .«open_kind») 0)) 9 _ nine past-pools))
-
     there : occupied m (m .state .«open_slot»)
-    there = open-there m v (not-true _ is-open) .there
+    there = open-there m v (reply-open (m .parameters) (m .state) asked address t (length payload) (length inputs) (length diags) z) .there
 
     index-is : indexOf (m .state .«open_slot») ≡ m .state .«open_slot»
-    index-is = rw (lt-ltb (m .state .«open_slot») slots below) refl
+    index-is = rw (lt-ltb (m .state .«open_slot») slots (reply-slot (m .parameters) (m .state) asked address t (length payload) (length inputs) (length diags) z)) refl
 
     accepted : Valid (unitReplied m (replyAt t m payload inputs diags))
     unfolding replyAt

@@ -31,7 +31,7 @@ use Rattle.cycle.specs.declared.state.Step.the-variants.{Halt, Control, Back, V
 use Rattle.cycle.specs.Seen.{nothingSeen, seenBy, idle}
 use Rattle.cycle.specs.State.{afterTurn, startOf}
 use Rattle.cycle.specs.Refusal.{turnRefusal}
-use Rattle.cycle.proofs.Laws.{passed, after}
+use Rattle.cycle.proofs.Laws.{turn-not-early}
 use Rattle.master.specs.declared.unit.DpMaster.{DpMaster}
 use Rattle.master.specs.declared.turn.Turn.{Turn}
 use Rattle.master.specs.Unit.{stateIs, balancesAre}
@@ -122,20 +122,9 @@ module _ (m : DpMaster) (v : Valid m) (time : ℕ) (l : m .state .«last_turn» 
       valid-on m v (sweptBy step m .balances) (afterTurn step (sweptBy step m .seen .sent) time (m .state)) (w .on) (w .size ∙ v .table)
       (standing-after step (sweptBy step m .seen .sent) (sweptBy step m .balances) (w .to))
 
-two : _≡_ {A = ℕ} 2 0 → ⊥
-two e = omega arith
-
-three : _≡_ {A = ℕ} 3 0 → ⊥
-three e = omega arith
-
-not-early : (m : DpMaster) (time setup outputs payload : ℕ) → turnRefusal (m .parameters) (m .state) time setup outputs payload ≡ 0 → m .state .«last_turn» ≤ time
-unfolding turnRefusal
-not-early m time setup outputs payload z =
-    leb-true _ _ (passed (leb (m .state .«last_turn») time) 3 _ three (after (leb 244 payload) 2 _ two (after (eqb outputs (m .parameters .«output_pool»)) 2 _ two (after (eqb setup (m .parameters .«setup_pool»)) 2 _ two z))))
-
 pub turn-valid : (m : DpMaster) (time : ℕ) (high : Bool) (setup outputs buf out : List ℕ) (r : Turn) → Turned m time high setup outputs buf out r → Valid m → Valid (r .master)
 turn-valid m time high setup outputs buf out r c v =
     let n = turnRefusal (m .parameters) (m .state) time (length setup) (length outputs) (length buf) in
     by-test (eqb n 0)
-    (λ e. subst Valid (sym (c .after ∙ rw e refl)) (taken-turn m v time (not-early m time (length setup) (length outputs) (length buf) (eqb-true n 0 e)) (stepAt time high m)))
+    (λ e. subst Valid (sym (c .after ∙ rw e refl)) (taken-turn m v time (turn-not-early (m .parameters) (m .state) time (length setup) (length outputs) (length buf) (eqb-true n 0 e)) (stepAt time high m)))
     (λ e. subst Valid (sym (c .after ∙ rw e refl)) v)

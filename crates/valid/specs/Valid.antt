@@ -7,8 +7,9 @@ use mathlib.Core.Bool.{Bool, true, false, _&&_, _||_}
 use mathlib.Core.Logic.{_⊎_}
 use lib.ListN.{length, getD}
 use lib.Dec.{T, eqb}
+use Rattle.refusals.specs.Table.{maxUser, maxConfig, maxImage, maxRoom}
 use Rattle.fdl.specs.declared.parameters.Parameters.{Parameters}
-use Rattle.fdl.specs.Params.{inRange}
+use Rattle.fdl.specs.Params.{creationRefusal}
 use Rattle.payloads.specs.declared.request.Request.the-variants.{Diagnosis, Parameters as ParameterRequest, Configuration, Data}
 use Rattle.payloads.specs.Request.{kindNumber}
 use Rattle.station.specs.declared.record.Station.{Station}
@@ -18,14 +19,14 @@ use Rattle.station.specs.State.{stateOf}
 use Rattle.peripheral.specs.declared.record.Peripheral.{Peripheral}
 use Rattle.peripheral.specs.Record.{blank}
 use Rattle.peripheral_set.specs.Marks.{slots}
-use Rattle.cycle.specs.declared.refusal.Used.{Used}
 use Rattle.cycle.specs.declared.state.DpMasterState.{DpMasterState}
 use Rattle.cycle.specs.Refusal.{addressRefusal}
 use Rattle.master.specs.declared.unit.DpMaster.{DpMaster}
+use Rattle.master.specs.declared.unit.Used.{Used}
 
--- the parameters: within their ranges, and with the watchdog off its factors are 0
+-- the parameters: within their ranges, and with the watchdog off its factors are 0 (DECISIONS 9)
 pub record InForce (u : Parameters) : Type 0 where
-  pub range : inRange u ≡ true
+  pub range : creationRefusal u ≡ 0
   pub first : u .watchdog ≡ false → u .«watchdog_first» ≡ 0
   pub second : u .watchdog ≡ false → u .«watchdog_second» ≡ 0
 
@@ -38,19 +39,19 @@ pub record Sound (limit room : ℕ) (s : Station) : Type 0 where
   pub stored : s .«diag_len» ≤ room
   pub unheld : s .diag .held ≡ false → s .«diag_len» ≡ 0
 
--- the ranges of a balance: within 01's limits, of absent set-up data empty, and inside the used parts of their pools
-pub record Placed (used : Used) (p : Peripheral) : Type 0 where
-  pub user : p .options .«user_parameters» ≤ 237
-  pub config : p .options .config ≤ 244
-  pub inputs : p .ranges .«input_len» ≤ 244
-  pub outputs : p .ranges .«output_len» ≤ 244
-  pub room : p .ranges .«diag_room» ≤ 238
+-- the ranges of a balance: within 01's limits, of absent set-up data empty, and inside their pools
+pub record Placed (u : Parameters) (p : Peripheral) : Type 0 where
+  pub user : p .options .«user_parameters» ≤ maxUser
+  pub config : p .options .config ≤ maxConfig
+  pub inputs : p .ranges .«input_len» ≤ maxImage
+  pub outputs : p .ranges .«output_len» ≤ maxImage
+  pub room : p .ranges .«diag_room» ≤ maxRoom
   pub noUser : p .options .«has_user_parameters» ≡ false → p .options .«user_parameters» ≡ 0
   pub noConfig : p .options .«has_config» ≡ false → p .options .config ≡ 0
-  pub setupEnd : p .ranges .setup + (p .options .«user_parameters» + p .options .config) ≤ used .setup
-  pub inputEnd : p .ranges .inputs + p .ranges .«input_len» ≤ used .inputs
-  pub outputEnd : p .ranges .outputs + p .ranges .«output_len» ≤ used .outputs
-  pub diagEnd : p .ranges .diag + p .ranges .«diag_room» ≤ used .diags
+  pub setupEnd : p .ranges .setup + (p .options .«user_parameters» + p .options .config) ≤ u .«setup_pool»
+  pub inputEnd : p .ranges .inputs + p .ranges .«input_len» ≤ u .«input_pool»
+  pub outputEnd : p .ranges .outputs + p .ranges .«output_len» ≤ u .«output_pool»
+  pub diagEnd : p .ranges .diag + p .ranges .«diag_room» ≤ u .«diag_pool»
 
 -- two ranges do not overlap
 abbrev pub Beside : ℕ → ℕ → ℕ → ℕ → Type 0
@@ -63,12 +64,21 @@ pub record Apart (p q : Peripheral) : Type 0 where
   pub outputs : Beside (p .ranges .outputs) (p .ranges .«output_len») (q .ranges .outputs) (q .ranges .«output_len»)
   pub diags : Beside (p .ranges .diag) (p .ranges .«diag_room») (q .ranges .diag) (q .ranges .«diag_room»)
 
--- the used parts lie in their pools
+-- ---- the used parts, of which only adding speaks
+
+-- they lie in their pools
 pub record Within (u : Parameters) (used : Used) : Type 0 where
   pub setup : used .setup ≤ u .«setup_pool»
   pub inputs : used .inputs ≤ u .«input_pool»
   pub outputs : used .outputs ≤ u .«output_pool»
   pub diags : used .diags ≤ u .«diag_pool»
+
+-- the ranges of a balance end in them
+pub record Before (p : Peripheral) (used : Used) : Type 0 where
+  pub setup : p .ranges .setup + (p .options .«user_parameters» + p .options .config) ≤ used .setup
+  pub inputs : p .ranges .inputs + p .ranges .«input_len» ≤ used .inputs
+  pub outputs : p .ranges .outputs + p .ranges .«output_len» ≤ used .outputs
+  pub diags : p .ranges .diag + p .ranges .«diag_room» ≤ used .diags
 
 -- the balance of a slot, and whether there is one
 abbrev pub balance : DpMaster → ℕ → Peripheral
@@ -116,10 +126,11 @@ pub record Valid (m : DpMaster) : Type 0 where
   pub parameters : InForce (m .parameters)
   pub marks : length (m .occupied) ≡ slots
   pub table : length (m .peripherals) ≡ slots
-  pub within : Within (m .parameters) (m .used)
   pub sound : (i : ℕ) → occupied m i → Sound (m .parameters .«max_retry_limit») (balance m i .ranges .«diag_room») (balance m i .station)
   pub address : (i : ℕ) → occupied m i → addressRefusal (m .parameters) (balance m i .station .address) ≡ 0
-  pub placed : (i : ℕ) → occupied m i → Placed (m .used) (balance m i)
+  pub placed : (i : ℕ) → occupied m i → Placed (m .parameters) (balance m i)
   pub apart : (i j : ℕ) → occupied m i → occupied m j → (i ≡ j → ⊥) → Apart (balance m i) (balance m j)
+  pub within : Within (m .parameters) (m .used)
+  pub used : (i : ℕ) → occupied m i → Before (balance m i) (m .used)
   pub empty : (i : ℕ) → getD (m .occupied) i false ≡ false → balance m i ≡ blank
   pub standing : Standing m
