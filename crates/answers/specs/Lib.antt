@@ -1,2 +1,2 @@
 pub mod Turn
-pub mod Reply
+pub mod ReplyAnswer

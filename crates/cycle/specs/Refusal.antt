@@ -3,7 +3,7 @@
 use Prim.Native.Nat.{ℕ}
 use mathlib.Core.List.{List, [], _∷_, _++_}
 use Rattle.refusals.specs.Table.{Row, maxUser, maxConfig, maxImage, maxRoom, lentRow, bufferRow, turnRow, fullRow, addressRow, lengthRow, askedRow, usableRow, firstOf}
-use Rattle.fdl.specs.Reply.{usableReply}
+use Rattle.fdl.specs.Status.{usableReply}
 use Rattle.fdl.specs.declared.parameters.Parameters.{Parameters}
 use Rattle.fdl.specs.declared.telegram.Telegram.{Telegram}
 use Rattle.peripheral_set.specs.Marks.{slots}

@@ -1,6 +1,6 @@
 pub mod Sweep
 pub mod Turns
-pub mod Replies
+pub mod Receives
 pub mod Adds
 pub mod Dones
 pub mod Bits

@@ -13,7 +13,7 @@ use Rattle.parts.proofs.Laws.{by-test, and-false}
 use Rattle.peripheral.specs.declared.record.Peripheral.{Peripheral}
 use Rattle.peripheral.specs.declared.visit.Visit.{Visit}
 use Rattle.peripheral.specs.Record.{blank}
-use Rattle.peripheral.specs.Visit.{wishesOf, visitedBy, visitOf}
+use Rattle.peripheral.specs.Visit.{visitAction, visitedBy, visitOf}
 use Rattle.peripheral_set.specs.Marks.{slots, sameMark, searchFrom, nextAfter}
 use Rattle.peripheral_set.proofs.Laws.{search-found, search-from}
 use Rattle.cycle.specs.declared.seen.Seen.{Seen}
@@ -28,7 +28,7 @@ module _ (limit : ℕ) (marks : List Bool) where
   -- with one slot more
   one-more : (k i : ℕ) (seen : Seen) (ps : List Peripheral)
       → sweepFrom (suc k) limit marks i seen ps
-      ≡ sweepFrom k limit marks (i + 1) (cond (getD marks i false && idle (seen .sent)) (seenBy i (wishesOf limit (getD ps i blank)) seen) seen)
+      ≡ sweepFrom k limit marks (i + 1) (cond (getD marks i false && idle (seen .sent)) (seenBy i (visitAction limit (getD ps i blank)) seen) seen)
       (cond (getD marks i false && idle (seen .sent)) (set ps i (visitedBy limit (getD ps i blank))) ps)
   unfolding sweepFrom
   one-more k i seen ps = refl
@@ -37,7 +37,7 @@ module _ (limit : ℕ) (marks : List Bool) where
   sweep-skip k i seen ps e = one-more k i seen ps ∙ rw e refl
 
   pub sweep-visit : (k i : ℕ) (seen : Seen) (ps : List Peripheral) → getD marks i false ≡ true → idle (seen .sent) ≡ true
-      → sweepFrom (suc k) limit marks i seen ps ≡ sweepFrom k limit marks (i + 1) (seenBy i (wishesOf limit (getD ps i blank)) seen) (set ps i (visitedBy limit (getD ps i blank)))
+      → sweepFrom (suc k) limit marks i seen ps ≡ sweepFrom k limit marks (i + 1) (seenBy i (visitAction limit (getD ps i blank)) seen) (set ps i (visitedBy limit (getD ps i blank)))
   sweep-visit k i seen ps e f = one-more k i seen ps ∙ rw (e, f) refl
 
   pub sweep-stopped : (k i : ℕ) (seen : Seen) (ps : List Peripheral) → idle (seen .sent) ≡ false → sweepFrom k limit marks i seen ps ≡ record { seen = seen; balances = ps }

@@ -3,4 +3,4 @@ pub mod Pools
 pub mod Add
 pub mod Handle
 pub mod Turn
-pub mod Reply
+pub mod Receive

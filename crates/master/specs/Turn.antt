@@ -9,7 +9,7 @@ use lib.Dec.{eqb}
 use Rattle.parts.specs.Parts.{putIn}
 use Rattle.peripheral.specs.declared.record.Peripheral.{Peripheral}
 use Rattle.peripheral.specs.Record.{blank}
-use Rattle.peripheral.specs.Visit.{wishesOf, visitedBy}
+use Rattle.peripheral.specs.Visit.{visitAction, visitedBy}
 use Rattle.peripheral_set.specs.Marks.{slots}
 use Rattle.cycle.specs.declared.seen.Seen.{Seen}
 use Rattle.cycle.specs.declared.state.Step.{Step}
@@ -34,7 +34,7 @@ sweepFrom zero limit marks i seen ps = record { seen = seen; balances = ps }
 sweepFrom (suc n) limit marks i seen ps =
     let go : Bool = getD marks i false && idle (seen .sent) in
     let p : Peripheral = getD ps i blank in
-    sweepFrom n limit marks (i + 1) (cond go (seenBy i (wishesOf limit p) seen) seen) (cond go (set ps i (visitedBy limit p)) ps)
+    sweepFrom n limit marks (i + 1) (cond go (seenBy i (visitAction limit p) seen) seen) (cond go (set ps i (visitedBy limit p)) ps)
 
 -- ---- what a turn does
 

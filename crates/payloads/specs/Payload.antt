@@ -25,7 +25,11 @@ paramHead u o =
 unfoldable pub controlPayload : Bool → List ℕ
 controlPayload clear = cond clear 0x02 0 ∷ 0 ∷ []
 
+-- how much of the buffer it takes: its length, or 0 where it does not fit
+abbrev pub lengthIn : List ℕ → List ℕ → ℕ
+lengthIn payload buf = cond (inside 0 (length payload) buf) (length payload) 0
+
 -- the payload stands at the front of the buffer and its length is answered; or it does not fit, nothing is written, and the answer is 0
 pub record Written (payload buf out : List ℕ) (r : ℕ) : Type 0 where
-  pub len : r ≡ cond (inside 0 (length payload) buf) (length payload) 0
+  pub len : r ≡ lengthIn payload buf
   pub bytes : out ≡ putIn 0 (length payload) payload buf

@@ -13,7 +13,7 @@ use Rattle.peripheral_set.specs.declared.PeripheralHandle.{PeripheralHandle}
 use Rattle.answers.specs.declared.turn.Transmission.{Transmission}
 use Rattle.answers.specs.declared.turn.Transmission.the-variants.{Nothing, Control, Request}
 use Rattle.answers.specs.declared.turn.TurnAnswer.{TurnAnswer}
-use Rattle.answers.specs.declared.reply.ReplyAnswer.{ReplyAnswer}
+use Rattle.answers.specs.declared.reply_answer.ReplyAnswer.{ReplyAnswer}
 use Rattle.script_fields.specs.Write.{flagNumber, fieldText, fieldsText, bytesText, newline, sumOf}
 
 -- L, P, F, and `?`

@@ -2,7 +2,7 @@
 ghost use Rattle.script_fields.specs.Write.{Wrote};
 ghost use mathlib.Core.Path.{_≡_};
 ghost use Rattle.script_answers.specs.Answer.{bareText, numberedText, addedText, headerText, sentNumber, transmissionText, turnText, replyText, imageText, diagnosisText, listingText};
-use answers::reply::ReplyAnswer;
+use answers::reply_answer::ReplyAnswer;
 use answers::turn::Transmission;
 use answers::turn::TurnAnswer;
 use fdl::telegram::DataTelegramHeader;

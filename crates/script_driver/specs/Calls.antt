@@ -13,10 +13,10 @@ use Rattle.peripheral_set.specs.Marks.{slots, listed}
 use Rattle.master.specs.declared.add.Addition.{Addition}
 use Rattle.master.specs.declared.add.Added.{Added}
 use Rattle.master.specs.declared.turn.Turn.{Turn}
-use Rattle.master.specs.declared.reply.Answered.{Answered}
+use Rattle.master.specs.declared.receive.Answered.{Answered}
 use Rattle.master.specs.Add.{Adding}
 use Rattle.master.specs.Turn.{Turned}
-use Rattle.master.specs.Reply.{Received}
+use Rattle.master.specs.Receive.{Received}
 use Rattle.access.specs.Lookup.{OutputsWritten}
 use Rattle.script_driver.specs.declared.run.Run.{Run}
 use Rattle.script_driver.specs.declared.calls.Shown.{Shown}

@@ -14,7 +14,7 @@ use access::diagnosis::LastDiagnosis;
 use fdl::telegram::Telegram;
 use master::add::Added;
 use master::add::Addition;
-use master::reply::Answered;
+use master::receive::Answered;
 use master::turn::Turn;
 use peripheral_set::PeripheralHandle;
 use peripheral_set::SLOTS;

@@ -9,7 +9,7 @@ use Rattle.station.specs.State.{eventNumber}
 use Rattle.answers.specs.declared.turn.Transmission.{Transmission}
 use Rattle.answers.specs.declared.turn.Transmission.the-variants.{Nothing, Control, Request}
 use Rattle.answers.specs.declared.turn.TurnAnswer.{TurnAnswer}
-use Rattle.answers.specs.declared.reply.ReplyAnswer.{ReplyAnswer}
+use Rattle.answers.specs.declared.reply_answer.ReplyAnswer.{ReplyAnswer}
 use Rattle.script_fields.specs.Write.{flagNumber, sumFrom}
 
 -- what was sent, the slot that it was sent to, and the payload

@@ -3,7 +3,7 @@ ghost use mathlib.Core.Path.{_≡_};
 ghost use Prim.Native.Nat.{_%_};
 ghost use Rattle.script_fields.specs.Write.{flagNumber, sumStep};
 ghost use Rattle.speed.specs.Total.{headerNumbers, sentNumbers, turnNumbers, replyNumbers, summed};
-use answers::reply::ReplyAnswer;
+use answers::reply_answer::ReplyAnswer;
 use answers::turn::Transmission;
 use answers::turn::TurnAnswer;
 use fdl::telegram::DataTelegramHeader;

@@ -18,7 +18,7 @@ use Rattle.master.specs.declared.add.Addition.{Addition}
 use Rattle.master.specs.Unit.{createdOf, stateIs}
 use Rattle.master.specs.Add.{Adding}
 use Rattle.master.specs.Turn.{Turned}
-use Rattle.master.specs.Reply.{Received}
+use Rattle.master.specs.Receive.{Received}
 use Rattle.trial_runs.specs.declared.bench.Bench.{Bench}
 use Rattle.trial_runs.specs.declared.bench.Placed.{Placed}
 use Rattle.trial_runs.specs.declared.bench.Seen.{Seen}

@@ -1,7 +1,7 @@
 // A bench with balances on it: the unit and its pools by value, and the calls on them.
 ghost use mathlib.Core.Path.{_≡_};
 ghost use Rattle.trial_runs.specs.Bench.{benchCreated, emptyBench, diagnosisTelegram, dataTelegram, PlacedOn, SeenOn, RepliedOn};
-use answers::reply::ReplyAnswer;
+use answers::reply_answer::ReplyAnswer;
 use answers::turn::TurnAnswer;
 use fdl::consts::Sap;
 use fdl::parameters::Parameters;

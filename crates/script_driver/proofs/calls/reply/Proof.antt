@@ -1,7 +1,7 @@
 -- `reply` meets its contract: the reply's own, on the lent fronts.
 use mathlib.Core.Path.{_≡_, sym}
 use lib.ListN.{length, take}
-use Rattle.master.specs.Reply.{Received}
+use Rattle.master.specs.Receive.{Received}
 use Rattle.script_driver.proofs.Laws.{front-le, front-size, short-take, lent-front, lent-behind, moved4}
 use borrow.Author.Needs.{needs}
 use Rattle.script_driver.proofs.calls.reply.Statement.{statement}

@@ -1,7 +1,6 @@
--- `receive_reply` meets its contract: refused or not, and where it is not, by what the balance promises.
-use mathlib.Core.Path.{refl, sym, ap, _∙_}
-use Rattle.answers.specs.Reply.{refusedReply}
-use Rattle.master.proofs.Replies.{reply-refused, reply-accepted}
+-- `receive_reply` meets its contract, by what judging and keeping promise.
+use mathlib.Core.Path.{refl}
+use Rattle.master.proofs.Receives.{received}
 use borrow.Author.Needs.{needs}
 use Rattle.master.proofs.unit.DpMaster.receive_reply.Statement.{statement}
 use Rattle.master.proofs.unit.DpMaster.receive_reply.Tie as tie
@@ -15,21 +14,8 @@ mul-p c = search needs
 element-copy-out-p : tie.Need-element-copy-out-p
 element-copy-out-p c = search needs
 
-address-requires : tie.Need-address-requires
-address-requires c κs = search needs
-
-reply-refusal-requires : tie.Need-reply-refusal-requires
-reply-refusal-requires c κs = search needs
-
-refused-requires : tie.Need-refused-requires
-refused-requires c κs = search needs
-
-returns : tie.Need-returns
-returns c =
-    let a = c .before .before .before .before .before .before .before .before .before .before .before .args in let e = rw (c .before .before .before .before .address .ensures, c .before .before .before .before .before .before .index .ensures .0) at (c .before .before .reply-refusal .ensures) in reply-refused _ (a .telegram) (a .self) (a .payload .now) (a .inputs .now) (a .diags .now) _ _ (λ z. c .before .if1 .taken (e ∙ z)) refl (c .refused .ensures ∙ ap refusedReply e)
-
-receive-reply-requires : tie.Need-receive-reply-requires
-receive-reply-requires c κs = search needs
+judge-requires : tie.Need-judge-requires
+judge-requires c κs = search needs
 
 mul-q : tie.Need-mul-q
 mul-q c = search needs
@@ -37,14 +23,8 @@ mul-q c = search needs
 element-set-from-q : tie.Need-element-set-from-q
 element-set-from-q c = search needs
 
-next-after-requires : tie.Need-next-after-requires
-next-after-requires c κs = search needs
-
-answered-requires : tie.Need-answered-requires
-answered-requires c κs = search needs
-
-event-handle-requires : tie.Need-event-handle-requires
-event-handle-requires c κs = search needs
+keep-requires : tie.Need-keep-requires
+keep-requires c κs = search needs
 
 same-length : tie.Need-same-length
 same-length c = search needs
@@ -52,13 +32,16 @@ same-length c = search needs
 same-length-2 : tie.Need-same-length-2
 same-length-2 c = search needs
 
-returns-2 : tie.Need-returns-2
-returns-2 c =
-    let a = c .before .before .before .before .before .before .before .before .before .before .before .before .before .before .before .before .before .before .before .before .before .before .args in
-    let i = c .before .before .before .before .before .before .before .before .before .before .before .before .before .before .before .before .before .index .ensures .0 in
-    let n = rw i at (c .before .before .next-after .ensures) in
-    let e = rw (c .before .before .before .before .before .before .before .before .before .before .before .before .before .before .before .address .ensures, i) at (c .before .before .before .before .before .before .before .before .before .before .before .before .before .reply-refusal .ensures) in
-    reply-accepted _ (a .telegram) (a .self) (a .payload .now) (a .inputs .now) (a .diags .now) (c .before .before .before .before .before .before .before .before .receive-reply .result) _ _ _ (sym e ∙ c .before .before .before .before .before .before .before .before .before .before .before .before .if1 .left) (rw i at (c .before .before .before .before .before .before .before .before .receive-reply .ensures)) (rw (c .before .answered .ensures, n, i) refl) (rw (c .event-handle .ensures, c .before .before .before .before .before .before .before .before .before .before .before .before .before .before .before .address .ensures, n, i) refl)
+returns : tie.Need-returns
+returns c =
+    let kept = c .before .before .before .before in
+    let judged = kept .before .before .before .before .before .before in
+    let found = judged .before .before in
+    let at-start = found .before .before .before .before .before .before .before in
+    let a = at-start .args in
+    let i = found .index .ensures .0 in
+    let e = judged .judge .ensures in
+    received (a .telegram) (a .self) (a .payload .now) (a .inputs .now) (a .diags .now) _ _ _ (a .address) (rw (e, i) at (kept .keep .ensures)) (rw (e, i) refl) (rw (e, i) refl)
 
 pub receive-reply-spec : {M : Type 1} → statement M
 receive-reply-spec =
@@ -67,16 +50,10 @@ receive-reply-spec =
     index-requires
     mul-p
     element-copy-out-p
-    address-requires
-    reply-refusal-requires
-    refused-requires
-    returns
-    receive-reply-requires
+    judge-requires
     mul-q
     element-set-from-q
-    next-after-requires
-    answered-requires
-    event-handle-requires
+    keep-requires
     same-length
     same-length-2
-    returns-2)
+    returns)

@@ -1,7 +1,7 @@
 -- `refused` meets its contract: no event, and no handle.
 use borrow.Author.Needs.{needs}
-use Rattle.answers.proofs.reply.ReplyAnswer.refused.Statement.{statement}
-use Rattle.answers.proofs.reply.ReplyAnswer.refused.Tie as tie
+use Rattle.answers.proofs.reply_answer.ReplyAnswer.refused.Statement.{statement}
+use Rattle.answers.proofs.reply_answer.ReplyAnswer.refused.Tie as tie
 
 none-requires : tie.Need-none-requires
 none-requires c κs = search needs

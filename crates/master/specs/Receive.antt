@@ -5,20 +5,19 @@ use mathlib.Core.Bool.{cond}
 use Prim.Native.Nat.{ℕ}
 use mathlib.Core.List.{List}
 use lib.ListN.{length, set}
-use lib.Dec.{eqb, leb}
-use Rattle.fdl.specs.Reply.{carried}
+use lib.Dec.{eqb}
+use Rattle.fdl.specs.Status.{carried}
 use Rattle.fdl.specs.declared.telegram.Telegram.{Telegram}
 use Rattle.peripheral.specs.declared.record.Peripheral.{Peripheral}
-use Rattle.peripheral.specs.declared.reply.Reply.{Reply}
-use Rattle.peripheral.specs.Reply.{withHeard, hearsOf, takes, inputsOf, diagsOf}
-use Rattle.peripheral_set.specs.Marks.{slots, nextAfter}
+use Rattle.peripheral.specs.declared.response.Reply.{Reply}
+use Rattle.peripheral.specs.Response.{replyOf, diagnosisTaken, inputsOf, diagsOf}
 use Rattle.cycle.specs.Seen.{indexOf}
 use Rattle.cycle.specs.State.{answered}
 use Rattle.cycle.specs.Refusal.{replyRefusal}
 use Rattle.master.specs.declared.unit.DpMaster.{DpMaster}
-use Rattle.answers.specs.declared.reply.ReplyAnswer.{ReplyAnswer}
-use Rattle.answers.specs.Reply.{eventHandle, refusedReply}
-use Rattle.master.specs.declared.reply.Answered.{Answered}
+use Rattle.answers.specs.declared.reply_answer.ReplyAnswer.{ReplyAnswer}
+use Rattle.answers.specs.ReplyAnswer.{nextOf, acceptedReply, refusedReply}
+use Rattle.master.specs.declared.receive.Answered.{Answered}
 use Rattle.master.specs.Unit.{stateIs, balancesAre, balanceAt}
 
 -- the balance with the open request
@@ -27,21 +26,15 @@ openBalance m = balanceAt (m .peripherals) (m .state .«open_slot»)
 
 -- its reply
 unfoldable pub replyAt : Telegram → DpMaster → List ℕ → List ℕ → List ℕ → Reply
-replyAt t m payload inputs diags = withHeard (openBalance m) (hearsOf t (openBalance m) payload inputs diags)
+replyAt t m payload inputs diags = replyOf t (openBalance m) payload (length inputs) (length diags)
 
 -- the next occupied slot after the one that was asked
 abbrev pub nextSlot : DpMaster → ℕ
-nextSlot m = nextAfter (m .occupied) (indexOf (m .state .«open_slot»))
+nextSlot m = nextOf (m .occupied) (m .state)
 
--- with no next slot, cycle-completed is true
+-- its answer
 abbrev pub replyAnswer : DpMaster → Reply → ReplyAnswer
-replyAnswer m r =
-    record {
-      refusal = 0;
-      «cycle_completed» = leb slots (nextSlot m);
-      event = r .event;
-      handle = eventHandle (r .event) (m .state .«open_slot») (openBalance m .station .address);
-    }
+replyAnswer m r = acceptedReply (m .occupied) (m .state) (openBalance m) r
 
 -- the unit after an accepted reply
 abbrev pub unitReplied : DpMaster → Reply → DpMaster
@@ -52,7 +45,7 @@ pub record Replies (n : ℕ) (is : Reply) (t : Telegram) (m : DpMaster) (payload
   pub after : r .master ≡ cond (eqb n 0) (unitReplied m is) m
   pub answer : r .answer ≡ cond (eqb n 0) (replyAnswer m is) (refusedReply n)
   pub inputPool : outInputs ≡ cond (eqb n 0) (inputsOf (is .event) (carried t payload) (openBalance m) inputs) inputs
-  pub diagPool : outDiags ≡ cond (eqb n 0) (diagsOf (takes t (openBalance m) (length payload)) (openBalance m) payload diags) diags
+  pub diagPool : outDiags ≡ cond (eqb n 0) (diagsOf (diagnosisTaken t (openBalance m) (length payload)) (openBalance m) payload diags) diags
 
 abbrev pub Received : DpMaster → ℕ → Telegram → List ℕ → List ℕ → List ℕ → List ℕ → List ℕ → Answered → Type 0
 Received m address t payload inputs diags outInputs outDiags r =

@@ -1,7 +1,7 @@
 -- `event_handle` meets its contract: an arm for each event.
 use borrow.Author.Needs.{needs}
-use Rattle.answers.proofs.reply.event_handle.Statement.{statement}
-use Rattle.answers.proofs.reply.event_handle.Tie as tie
+use Rattle.answers.proofs.reply_answer.event_handle.Statement.{statement}
+use Rattle.answers.proofs.reply_answer.event_handle.Tie as tie
 
 none-requires : tie.Need-none-requires
 none-requires c κs = search needs
