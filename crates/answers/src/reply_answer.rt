@@ -19,7 +19,7 @@ pub struct ReplyAnswer {
 }
 
 // The handle of a balance with an event; no slot and no address where there is no event.
-pub fn event_handle(event: PeripheralEvent, slot: u8, address: u8) -> PeripheralHandle
+fn event_handle(event: PeripheralEvent, slot: u8, address: u8) -> PeripheralHandle
     ensures { λ r. ⌜ r ≡ eventHandle event slot address ⌝ }
 {
     let none = PeripheralHandle::none();
@@ -40,7 +40,7 @@ pub fn event_handle(event: PeripheralEvent, slot: u8, address: u8) -> Peripheral
 }
 
 impl ReplyAnswer {
-    pub fn refused(refusal: u8) -> ReplyAnswer
+    fn refused(refusal: u8) -> ReplyAnswer
         ensures { λ r. ⌜ r ≡ refusedReply refusal ⌝ }
     {
         let handle = PeripheralHandle::none();

@@ -4,22 +4,14 @@ use mathlib.Core.Path.{_≡_}
 use denote.Ref.{now}
 use Rattle.coincide.specs.Coincide.{Coincide}
 use Rattle.coincide.proofs.Law.{same}
-use Rattle.answers.proofs.reply.event_handle.Kinds as K·reply-event-handle
-use Rattle.answers.proofs.reply.event_handle.Reads as R·reply-event-handle
-use Rattle.answers.proofs.reply.ReplyAnswer.refused.Kinds as K·reply-ReplyAnswer-refused
-use Rattle.answers.proofs.reply.ReplyAnswer.refused.Reads as R·reply-ReplyAnswer-refused
 use Rattle.answers.proofs.turn.fill.Kinds as K·turn-fill
 use Rattle.answers.proofs.turn.fill.Reads as R·turn-fill
 use Rattle.answers.proofs.turn.TurnAnswer.refused.Kinds as K·turn-TurnAnswer-refused
 use Rattle.answers.proofs.turn.TurnAnswer.refused.Reads as R·turn-TurnAnswer-refused
 use Rattle.answers.proofs.turn.TurnAnswer.of.Kinds as K·turn-TurnAnswer-of
 use Rattle.answers.proofs.turn.TurnAnswer.of.Reads as R·turn-TurnAnswer-of
-
-pub reply-event-handle : Coincide 0 K·reply-event-handle.ps K·reply-event-handle.r R·reply-event-handle.Learnt (λ κs z y e f. z ≡ y)
-reply-event-handle κs a z y e f p q = same p q
-
-pub reply-ReplyAnswer-refused : Coincide 0 K·reply-ReplyAnswer-refused.ps K·reply-ReplyAnswer-refused.r R·reply-ReplyAnswer-refused.Learnt (λ κs z y e f. z ≡ y)
-reply-ReplyAnswer-refused κs a z y e f p q = same p q
+use Rattle.answers.proofs.reply_answer.judge.Kinds as K·reply-answer-judge
+use Rattle.answers.proofs.reply_answer.judge.Reads as R·reply-answer-judge
 
 pub turn-fill : Coincide 3 K·turn-fill.ps K·turn-fill.r R·turn-fill.Learnt (λ κs z y e f. (z ≡ y) × (now (e .1 .1 .1 .1 .1 .1 .1 .0) ≡ now (f .1 .1 .1 .1 .1 .1 .1 .0)))
 turn-fill κs a z y e f p q = (same (p .answer) (q .answer), same (p .bytes) (q .bytes))
@@ -29,3 +21,6 @@ turn-TurnAnswer-refused κs a z y e f p q = same p q
 
 pub turn-TurnAnswer-of : Coincide 0 K·turn-TurnAnswer-of.ps K·turn-TurnAnswer-of.r R·turn-TurnAnswer-of.Learnt (λ κs z y e f. z ≡ y)
 turn-TurnAnswer-of κs a z y e f p q = same p q
+
+pub reply-answer-judge : Coincide 1 K·reply-answer-judge.ps K·reply-answer-judge.r R·reply-answer-judge.Learnt (λ κs z y e f. z ≡ y)
+reply-answer-judge κs a z y e f p q = same p q

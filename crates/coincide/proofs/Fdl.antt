@@ -27,16 +27,10 @@ use Rattle.fdl.proofs.telegram.FrameCountBit.of.Kinds as K·telegram-FrameCount
 use Rattle.fdl.proofs.telegram.FrameCountBit.of.Reads as R·telegram-FrameCountBit-of
 use Rattle.fdl.proofs.telegram.RequestType.number.Kinds as K·telegram-RequestType-number
 use Rattle.fdl.proofs.telegram.RequestType.number.Reads as R·telegram-RequestType-number
-use Rattle.fdl.proofs.telegram.ResponseStatus.of.Kinds as K·telegram-ResponseStatus-of
-use Rattle.fdl.proofs.telegram.ResponseStatus.of.Reads as R·telegram-ResponseStatus-of
-use Rattle.fdl.proofs.telegram.ResponseStatus.is_usable.Kinds as K·telegram-ResponseStatus-is-usable
-use Rattle.fdl.proofs.telegram.ResponseStatus.is_usable.Reads as R·telegram-ResponseStatus-is-usable
-use Rattle.fdl.proofs.telegram.ResponseStatus.is_data.Kinds as K·telegram-ResponseStatus-is-data
-use Rattle.fdl.proofs.telegram.ResponseStatus.is_data.Reads as R·telegram-ResponseStatus-is-data
-use Rattle.fdl.proofs.telegram.Telegram.has_data.Kinds as K·telegram-Telegram-has-data
-use Rattle.fdl.proofs.telegram.Telegram.has_data.Reads as R·telegram-Telegram-has-data
 use Rattle.fdl.proofs.telegram.Telegram.is_usable.Kinds as K·telegram-Telegram-is-usable
 use Rattle.fdl.proofs.telegram.Telegram.is_usable.Reads as R·telegram-Telegram-is-usable
+use Rattle.fdl.proofs.telegram.Telegram.is_short_confirmation.Kinds as K·telegram-Telegram-is-short-confirmation
+use Rattle.fdl.proofs.telegram.Telegram.is_short_confirmation.Reads as R·telegram-Telegram-is-short-confirmation
 
 pub consts-Sap-number : Coincide 0 K·consts-Sap-number.ps K·consts-Sap-number.r R·consts-Sap-number.Learnt (λ κs z y e f. z ≡ y)
 consts-Sap-number κs a z y e f p q = same p q
@@ -74,17 +68,8 @@ telegram-FrameCountBit-of κs a z y e f p q = same p q
 pub telegram-RequestType-number : Coincide 0 K·telegram-RequestType-number.ps K·telegram-RequestType-number.r R·telegram-RequestType-number.Learnt (λ κs z y e f. z ≡ y)
 telegram-RequestType-number κs a z y e f p q = same p q
 
-pub telegram-ResponseStatus-of : Coincide 0 K·telegram-ResponseStatus-of.ps K·telegram-ResponseStatus-of.r R·telegram-ResponseStatus-of.Learnt (λ κs z y e f. z ≡ y)
-telegram-ResponseStatus-of κs a z y e f p q = same p q
-
-pub telegram-ResponseStatus-is-usable : Coincide 0 K·telegram-ResponseStatus-is-usable.ps K·telegram-ResponseStatus-is-usable.r R·telegram-ResponseStatus-is-usable.Learnt (λ κs z y e f. z ≡ y)
-telegram-ResponseStatus-is-usable κs a z y e f p q = same p q
-
-pub telegram-ResponseStatus-is-data : Coincide 0 K·telegram-ResponseStatus-is-data.ps K·telegram-ResponseStatus-is-data.r R·telegram-ResponseStatus-is-data.Learnt (λ κs z y e f. z ≡ y)
-telegram-ResponseStatus-is-data κs a z y e f p q = same p q
-
-pub telegram-Telegram-has-data : Coincide 0 K·telegram-Telegram-has-data.ps K·telegram-Telegram-has-data.r R·telegram-Telegram-has-data.Learnt (λ κs z y e f. z ≡ y)
-telegram-Telegram-has-data κs a z y e f p q = same p q
-
 pub telegram-Telegram-is-usable : Coincide 0 K·telegram-Telegram-is-usable.ps K·telegram-Telegram-is-usable.r R·telegram-Telegram-is-usable.Learnt (λ κs z y e f. z ≡ y)
 telegram-Telegram-is-usable κs a z y e f p q = same p q
+
+pub telegram-Telegram-is-short-confirmation : Coincide 0 K·telegram-Telegram-is-short-confirmation.ps K·telegram-Telegram-is-short-confirmation.r R·telegram-Telegram-is-short-confirmation.Learnt (λ κs z y e f. z ≡ y)
+telegram-Telegram-is-short-confirmation κs a z y e f p q = same p q

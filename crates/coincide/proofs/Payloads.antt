@@ -10,8 +10,6 @@ use Rattle.payloads.proofs.diagnosis.is_taken.Kinds as K·diagnosis-is-taken
 use Rattle.payloads.proofs.diagnosis.is_taken.Reads as R·diagnosis-is-taken
 use Rattle.payloads.proofs.diagnosis.read_diagnosis.Kinds as K·diagnosis-read-diagnosis
 use Rattle.payloads.proofs.diagnosis.read_diagnosis.Reads as R·diagnosis-read-diagnosis
-use Rattle.payloads.proofs.diagnosis.store_extended.Kinds as K·diagnosis-store-extended
-use Rattle.payloads.proofs.diagnosis.store_extended.Reads as R·diagnosis-store-extended
 use Rattle.payloads.proofs.request.control_header.Kinds as K·request-control-header
 use Rattle.payloads.proofs.request.control_header.Reads as R·request-control-header
 use Rattle.payloads.proofs.request.Request.number.Kinds as K·request-Request-number
@@ -26,6 +24,12 @@ use Rattle.payloads.proofs.write.write_zeros.Kinds as K·write-write-zeros
 use Rattle.payloads.proofs.write.write_zeros.Reads as R·write-write-zeros
 use Rattle.payloads.proofs.write.write_control.Kinds as K·write-write-control
 use Rattle.payloads.proofs.write.write_control.Reads as R·write-write-control
+use Rattle.payloads.proofs.diagnosis.DiagnosticFlags.number.Kinds as K·diagnosis-DiagnosticFlags-number
+use Rattle.payloads.proofs.diagnosis.DiagnosticFlags.number.Reads as R·diagnosis-DiagnosticFlags-number
+use Rattle.payloads.proofs.diagnosis.DiagnosticFlags.is_in.Kinds as K·diagnosis-DiagnosticFlags-is-in
+use Rattle.payloads.proofs.diagnosis.DiagnosticFlags.is_in.Reads as R·diagnosis-DiagnosticFlags-is-in
+use Rattle.payloads.proofs.diagnosis.store_extended.Kinds as K·diagnosis-store-extended
+use Rattle.payloads.proofs.diagnosis.store_extended.Reads as R·diagnosis-store-extended
 
 pub diagnosis-DiagnosticsInfo-none : Coincide 0 K·diagnosis-DiagnosticsInfo-none.ps K·diagnosis-DiagnosticsInfo-none.r R·diagnosis-DiagnosticsInfo-none.Learnt (λ κs z y e f. z ≡ y)
 diagnosis-DiagnosticsInfo-none κs a z y e f p q = same p q
@@ -35,9 +39,6 @@ diagnosis-is-taken κs a z y e f p q = same p q
 
 pub diagnosis-read-diagnosis : Coincide 1 K·diagnosis-read-diagnosis.ps K·diagnosis-read-diagnosis.r R·diagnosis-read-diagnosis.Learnt (λ κs z y e f. z ≡ y)
 diagnosis-read-diagnosis κs a z y e f p q = same p q
-
-pub diagnosis-store-extended : Coincide 2 K·diagnosis-store-extended.ps K·diagnosis-store-extended.r R·diagnosis-store-extended.Learnt (λ κs z y e f. (z ≡ y) × (now (e .0) ≡ now (f .0)))
-diagnosis-store-extended κs a z y e f p q = (same (p .stored) (q .stored), same (p .bytes) (q .bytes))
 
 pub request-control-header : Coincide 0 K·request-control-header.ps K·request-control-header.r R·request-control-header.Learnt (λ κs z y e f. z ≡ y)
 request-control-header κs a z y e f p q = same p q
@@ -59,3 +60,12 @@ write-write-zeros κs a z y e f p q = (same (p .len) (q .len), same (p .bytes) (
 
 pub write-write-control : Coincide 1 K·write-write-control.ps K·write-write-control.r R·write-write-control.Learnt (λ κs z y e f. (z ≡ y) × (now (e .1 .0) ≡ now (f .1 .0)))
 write-write-control κs a z y e f p q = (same (p .len) (q .len), same (p .bytes) (q .bytes))
+
+pub diagnosis-DiagnosticFlags-number : Coincide 0 K·diagnosis-DiagnosticFlags-number.ps K·diagnosis-DiagnosticFlags-number.r R·diagnosis-DiagnosticFlags-number.Learnt (λ κs z y e f. z ≡ y)
+diagnosis-DiagnosticFlags-number κs a z y e f p q = same (p .0) (q .0)
+
+pub diagnosis-DiagnosticFlags-is-in : Coincide 0 K·diagnosis-DiagnosticFlags-is-in.ps K·diagnosis-DiagnosticFlags-is-in.r R·diagnosis-DiagnosticFlags-is-in.Learnt (λ κs z y e f. z ≡ y)
+diagnosis-DiagnosticFlags-is-in κs a z y e f p q = same p q
+
+pub diagnosis-store-extended : Coincide 2 K·diagnosis-store-extended.ps K·diagnosis-store-extended.r R·diagnosis-store-extended.Learnt (λ κs z y e f. now (e .0) ≡ now (f .0))
+diagnosis-store-extended κs a z y e f p q = same p q

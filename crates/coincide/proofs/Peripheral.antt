@@ -1,6 +1,6 @@
 -- Any two results that a contract of `peripheral` allows coincide: a statement for each public function.
 -- The idea: a contract is an equation for the answer and for each lent buffer, so two of them have the same right-hand side.
-use mathlib.Core.Path.{_≡_, refl}
+use mathlib.Core.Path.{_≡_}
 use denote.Ref.{now}
 use Rattle.parts.specs.Parts.{SamePart}
 use Rattle.parts.proofs.Laws.{itself-same}
@@ -32,16 +32,16 @@ use Rattle.peripheral.proofs.record.Peripheral.pi_q.Kinds as K·record-Peripher
 use Rattle.peripheral.proofs.record.Peripheral.pi_q.Reads as R·record-Peripheral-pi-q
 use Rattle.peripheral.proofs.record.Peripheral.pi_q_mut.Kinds as K·record-Peripheral-pi-q-mut
 use Rattle.peripheral.proofs.record.Peripheral.pi_q_mut.Reads as R·record-Peripheral-pi-q-mut
-use Rattle.peripheral.proofs.record.Peripheral.handle_diagnostics_response.Kinds as K·record-Peripheral-handle-diagnostics-response
-use Rattle.peripheral.proofs.record.Peripheral.handle_diagnostics_response.Reads as R·record-Peripheral-handle-diagnostics-response
-use Rattle.peripheral.proofs.record.Peripheral.receive_reply.Kinds as K·record-Peripheral-receive-reply
-use Rattle.peripheral.proofs.record.Peripheral.receive_reply.Reads as R·record-Peripheral-receive-reply
 use Rattle.peripheral.proofs.record.Peripheral.visit.Kinds as K·record-Peripheral-visit
 use Rattle.peripheral.proofs.record.Peripheral.visit.Reads as R·record-Peripheral-visit
 use Rattle.peripheral.proofs.record.Peripheral.header.Kinds as K·record-Peripheral-header
 use Rattle.peripheral.proofs.record.Peripheral.header.Reads as R·record-Peripheral-header
 use Rattle.peripheral.proofs.record.Peripheral.write_payload.Kinds as K·record-Peripheral-write-payload
 use Rattle.peripheral.proofs.record.Peripheral.write_payload.Reads as R·record-Peripheral-write-payload
+use Rattle.peripheral.proofs.record.Peripheral.receive_reply.Kinds as K·record-Peripheral-receive-reply
+use Rattle.peripheral.proofs.record.Peripheral.receive_reply.Reads as R·record-Peripheral-receive-reply
+use Rattle.peripheral.proofs.record.Peripheral.keep.Kinds as K·record-Peripheral-keep
+use Rattle.peripheral.proofs.record.Peripheral.keep.Reads as R·record-Peripheral-keep
 
 pub record-Peripheral-blank : Coincide 0 K·record-Peripheral-blank.ps K·record-Peripheral-blank.r R·record-Peripheral-blank.Learnt (λ κs z y e f. z ≡ y)
 record-Peripheral-blank κs a z y e f p q = same p q
@@ -82,12 +82,6 @@ record-Peripheral-pi-q κs a z y e f p q = itself-same p q
 pub record-Peripheral-pi-q-mut : Coincide 1 K·record-Peripheral-pi-q-mut.ps K·record-Peripheral-pi-q-mut.r R·record-Peripheral-pi-q-mut.Learnt (λ κs z y e f. SamePart z y)
 record-Peripheral-pi-q-mut κs a z y e f p q = itself-same p q
 
-pub record-Peripheral-handle-diagnostics-response : Coincide 2 K·record-Peripheral-handle-diagnostics-response.ps K·record-Peripheral-handle-diagnostics-response.r R·record-Peripheral-handle-diagnostics-response.Learnt (λ κs z y e f. (z ≡ y) × (now (e .1 .1 .1 .0) ≡ now (f .1 .1 .1 .0)))
-record-Peripheral-handle-diagnostics-response κs a z y e f p q = (rw (same (p .answer) (q .answer), same (p .after) (q .after)) refl, same (p .bytes) (q .bytes))
-
-pub record-Peripheral-receive-reply : Coincide 3 K·record-Peripheral-receive-reply.ps K·record-Peripheral-receive-reply.r R·record-Peripheral-receive-reply.Learnt (λ κs z y e f. (z ≡ y) × (now (e .1 .1 .1 .0) ≡ now (f .1 .1 .1 .0)) × (now (e .1 .1 .1 .1 .0) ≡ now (f .1 .1 .1 .1 .0)))
-record-Peripheral-receive-reply κs a z y e f p q = (same (p .answer) (q .answer), same (p .inputPool) (q .inputPool), same (p .diagPool) (q .diagPool))
-
 pub record-Peripheral-visit : Coincide 0 K·record-Peripheral-visit.ps K·record-Peripheral-visit.r R·record-Peripheral-visit.Learnt (λ κs z y e f. z ≡ y)
 record-Peripheral-visit κs a z y e f p q = same p q
 
@@ -96,3 +90,9 @@ record-Peripheral-header κs a z y e f p q = same p q
 
 pub record-Peripheral-write-payload : Coincide 3 K·record-Peripheral-write-payload.ps K·record-Peripheral-write-payload.r R·record-Peripheral-write-payload.Learnt (λ κs z y e f. (z ≡ y) × (now (e .1 .1 .1 .1 .1 .1 .0) ≡ now (f .1 .1 .1 .1 .1 .1 .0)))
 record-Peripheral-write-payload κs a z y e f p q = (same (p .len) (q .len), same (p .bytes) (q .bytes))
+
+pub record-Peripheral-receive-reply : Coincide 1 K·record-Peripheral-receive-reply.ps K·record-Peripheral-receive-reply.r R·record-Peripheral-receive-reply.Learnt (λ κs z y e f. z ≡ y)
+record-Peripheral-receive-reply κs a z y e f p q = same p q
+
+pub record-Peripheral-keep : Coincide 3 K·record-Peripheral-keep.ps K·record-Peripheral-keep.r R·record-Peripheral-keep.Learnt (λ κs z y e f. (now (e .1 .1 .1 .0) ≡ now (f .1 .1 .1 .0)) × (now (e .1 .1 .1 .1 .0) ≡ now (f .1 .1 .1 .1 .0)))
+record-Peripheral-keep κs a z y e f p q = (same (p .inputPool) (q .inputPool), same (p .diagPool) (q .diagPool))

@@ -15,24 +15,30 @@ use Rattle.station.proofs.record.Station.last_diagnostics.Kinds as K·record-St
 use Rattle.station.proofs.record.Station.last_diagnostics.Reads as R·record-Station-last-diagnostics
 use Rattle.station.proofs.record.Station.stored_part.Kinds as K·record-Station-stored-part
 use Rattle.station.proofs.record.Station.stored_part.Reads as R·record-Station-stored-part
-use Rattle.station.proofs.record.Station.took.Kinds as K·record-Station-took
-use Rattle.station.proofs.record.Station.took.Reads as R·record-Station-took
-use Rattle.station.proofs.record.Station.awaits_diagnosis.Kinds as K·record-Station-awaits-diagnosis
-use Rattle.station.proofs.record.Station.awaits_diagnosis.Reads as R·record-Station-awaits-diagnosis
-use Rattle.station.proofs.record.Station.awaits_data.Kinds as K·record-Station-awaits-data
-use Rattle.station.proofs.record.Station.awaits_data.Reads as R·record-Station-awaits-data
-use Rattle.station.proofs.record.Station.heard.Kinds as K·record-Station-heard
-use Rattle.station.proofs.record.Station.heard.Reads as R·record-Station-heard
 use Rattle.station.proofs.state.PeripheralState.number.Kinds as K·state-PeripheralState-number
 use Rattle.station.proofs.state.PeripheralState.number.Reads as R·state-PeripheralState-number
 use Rattle.station.proofs.state.PeripheralState.of.Kinds as K·state-PeripheralState-of
 use Rattle.station.proofs.state.PeripheralState.of.Reads as R·state-PeripheralState-of
 use Rattle.station.proofs.state.PeripheralEvent.number.Kinds as K·state-PeripheralEvent-number
 use Rattle.station.proofs.state.PeripheralEvent.number.Reads as R·state-PeripheralEvent-number
-use Rattle.station.proofs.record.Station.wish.Kinds as K·record-Station-wish
-use Rattle.station.proofs.record.Station.wish.Reads as R·record-Station-wish
 use Rattle.station.proofs.record.Station.visited.Kinds as K·record-Station-visited
 use Rattle.station.proofs.record.Station.visited.Reads as R·record-Station-visited
+use Rattle.station.proofs.state.PeripheralState.is_live.Kinds as K·state-PeripheralState-is-live
+use Rattle.station.proofs.state.PeripheralState.is_live.Reads as R·state-PeripheralState-is-live
+use Rattle.station.proofs.state.PeripheralState.is_running.Kinds as K·state-PeripheralState-is-running
+use Rattle.station.proofs.state.PeripheralState.is_running.Reads as R·state-PeripheralState-is-running
+use Rattle.station.proofs.record.Station.request.Kinds as K·record-Station-request
+use Rattle.station.proofs.record.Station.request.Reads as R·record-Station-request
+use Rattle.station.proofs.record.Station.action.Kinds as K·record-Station-action
+use Rattle.station.proofs.record.Station.action.Reads as R·record-Station-action
+use Rattle.station.proofs.record.Station.diagnosis_heard.Kinds as K·record-Station-diagnosis-heard
+use Rattle.station.proofs.record.Station.diagnosis_heard.Reads as R·record-Station-diagnosis-heard
+use Rattle.station.proofs.record.Station.diagnosis_missed.Kinds as K·record-Station-diagnosis-missed
+use Rattle.station.proofs.record.Station.diagnosis_missed.Reads as R·record-Station-diagnosis-missed
+use Rattle.station.proofs.record.Station.acknowledgement_heard.Kinds as K·record-Station-acknowledgement-heard
+use Rattle.station.proofs.record.Station.acknowledgement_heard.Reads as R·record-Station-acknowledgement-heard
+use Rattle.station.proofs.record.Station.data_heard.Kinds as K·record-Station-data-heard
+use Rattle.station.proofs.record.Station.data_heard.Reads as R·record-Station-data-heard
 
 pub record-Station-new : Coincide 0 K·record-Station-new.ps K·record-Station-new.r R·record-Station-new.Learnt (λ κs z y e f. z ≡ y)
 record-Station-new κs a z y e f p q = same p q
@@ -52,18 +58,6 @@ record-Station-last-diagnostics κs a z y e f p q = same p q
 pub record-Station-stored-part : Coincide 0 K·record-Station-stored-part.ps K·record-Station-stored-part.r R·record-Station-stored-part.Learnt (λ κs z y e f. z ≡ y)
 record-Station-stored-part κs a z y e f p q = same p q
 
-pub record-Station-took : Coincide 0 K·record-Station-took.ps K·record-Station-took.r R·record-Station-took.Learnt (λ κs z y e f. z ≡ y)
-record-Station-took κs a z y e f p q = same p q
-
-pub record-Station-awaits-diagnosis : Coincide 0 K·record-Station-awaits-diagnosis.ps K·record-Station-awaits-diagnosis.r R·record-Station-awaits-diagnosis.Learnt (λ κs z y e f. z ≡ y)
-record-Station-awaits-diagnosis κs a z y e f p q = same p q
-
-pub record-Station-awaits-data : Coincide 0 K·record-Station-awaits-data.ps K·record-Station-awaits-data.r R·record-Station-awaits-data.Learnt (λ κs z y e f. z ≡ y)
-record-Station-awaits-data κs a z y e f p q = same p q
-
-pub record-Station-heard : Coincide 0 K·record-Station-heard.ps K·record-Station-heard.r R·record-Station-heard.Learnt (λ κs z y e f. z ≡ y)
-record-Station-heard κs a z y e f p q = same p q
-
 pub state-PeripheralState-number : Coincide 0 K·state-PeripheralState-number.ps K·state-PeripheralState-number.r R·state-PeripheralState-number.Learnt (λ κs z y e f. z ≡ y)
 state-PeripheralState-number κs a z y e f p q = same p q
 
@@ -73,8 +67,29 @@ state-PeripheralState-of κs a z y e f p q = same p q
 pub state-PeripheralEvent-number : Coincide 0 K·state-PeripheralEvent-number.ps K·state-PeripheralEvent-number.r R·state-PeripheralEvent-number.Learnt (λ κs z y e f. z ≡ y)
 state-PeripheralEvent-number κs a z y e f p q = same p q
 
-pub record-Station-wish : Coincide 0 K·record-Station-wish.ps K·record-Station-wish.r R·record-Station-wish.Learnt (λ κs z y e f. z ≡ y)
-record-Station-wish κs a z y e f p q = same p q
-
 pub record-Station-visited : Coincide 0 K·record-Station-visited.ps K·record-Station-visited.r R·record-Station-visited.Learnt (λ κs z y e f. z ≡ y)
 record-Station-visited κs a z y e f p q = same p q
+
+pub state-PeripheralState-is-live : Coincide 0 K·state-PeripheralState-is-live.ps K·state-PeripheralState-is-live.r R·state-PeripheralState-is-live.Learnt (λ κs z y e f. z ≡ y)
+state-PeripheralState-is-live κs a z y e f p q = same p q
+
+pub state-PeripheralState-is-running : Coincide 0 K·state-PeripheralState-is-running.ps K·state-PeripheralState-is-running.r R·state-PeripheralState-is-running.Learnt (λ κs z y e f. z ≡ y)
+state-PeripheralState-is-running κs a z y e f p q = same p q
+
+pub record-Station-request : Coincide 0 K·record-Station-request.ps K·record-Station-request.r R·record-Station-request.Learnt (λ κs z y e f. z ≡ y)
+record-Station-request κs a z y e f p q = same p q
+
+pub record-Station-action : Coincide 0 K·record-Station-action.ps K·record-Station-action.r R·record-Station-action.Learnt (λ κs z y e f. z ≡ y)
+record-Station-action κs a z y e f p q = same p q
+
+pub record-Station-diagnosis-heard : Coincide 0 K·record-Station-diagnosis-heard.ps K·record-Station-diagnosis-heard.r R·record-Station-diagnosis-heard.Learnt (λ κs z y e f. z ≡ y)
+record-Station-diagnosis-heard κs a z y e f p q = same p q
+
+pub record-Station-diagnosis-missed : Coincide 0 K·record-Station-diagnosis-missed.ps K·record-Station-diagnosis-missed.r R·record-Station-diagnosis-missed.Learnt (λ κs z y e f. z ≡ y)
+record-Station-diagnosis-missed κs a z y e f p q = same p q
+
+pub record-Station-acknowledgement-heard : Coincide 0 K·record-Station-acknowledgement-heard.ps K·record-Station-acknowledgement-heard.r R·record-Station-acknowledgement-heard.Learnt (λ κs z y e f. z ≡ y)
+record-Station-acknowledgement-heard κs a z y e f p q = same p q
+
+pub record-Station-data-heard : Coincide 0 K·record-Station-data-heard.ps K·record-Station-data-heard.r R·record-Station-data-heard.Learnt (λ κs z y e f. z ≡ y)
+record-Station-data-heard κs a z y e f p q = same p q

@@ -1,7 +1,6 @@
 -- A reply put together from its pieces: judged, stored, kept.
 -- The idea: a refusal hands the parts back, and a balance stored where it was taken out changes nothing; an accepted reply keeps in the pools what its balance makes of it.
-use mathlib.Core.Path.{_≡_, refl, sym, ap, _∙_}
-use mathlib.Core.Bool.{Bool, true, false, cond}
+use mathlib.Core.Path.{_≡_, ap, _∙_}
 use mathlib.Core.List.{List}
 use Prim.Native.Nat.{ℕ}
 use lib.Dec.{eqb}

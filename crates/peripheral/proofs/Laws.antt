@@ -1,10 +1,10 @@
 -- What a reply does to the two pools, for the crates above.
 -- The idea: the input pool changes only where DataExchanged is reported, and then only in the image's range; a part that does not fit its room changes nothing.
 use mathlib.Core.Path.{_≡_, refl, sym, _∙_}
-use mathlib.Core.Bool.{Bool, true, false, _&&_, false≢true, cond}
+use mathlib.Core.Bool.{true, false, _&&_, false≢true, cond}
 use mathlib.Core.Logic.{_⊎_}
 use mathlib.Core.List.{List, []}
-use Prim.Native.Nat.{ℕ, _+_, _-_, _≤_, _<_}
+use Prim.Native.Nat.{ℕ, _+_, _-_, _≤_}
 use native.Mathlib.Omega.{arith}
 use lib.ListN.{length, drop, length-drop}
 use lib.Dec.{leb, eqb}
@@ -24,7 +24,7 @@ use Rattle.station.specs.Heard.{isExchanged}
 use Rattle.station.proofs.Heards.{acknowledgement-keeps}
 use Rattle.peripheral.specs.declared.record.Peripheral.{Peripheral}
 use Rattle.peripheral.specs.Record.{inputImage}
-use Rattle.peripheral.specs.Response.{partFits, extendedIn, fitsImage, answerTo, replyOf, withImage, withPart, inputsOf, diagsOf}
+use Rattle.peripheral.specs.Response.{partFits, fitsImage, answerTo, replyOf, withImage, withPart, inputsOf, diagsOf}
 use Rattle.peripheral.proofs.Pools.{diagnosis-event, fits}
 
 -- ---- the input pool

@@ -1,19 +1,19 @@
 -- What the judged reply keeps, put together to what the whole reply leaves in the pools.
 -- The idea: only the answer to a data request keeps an image, and then what came is exactly the front of the payload; only a taken diagnosis keeps a part.
 use mathlib.Core.Path.{_≡_, refl, sym, ap, _∙_}
-use mathlib.Core.Bool.{Bool, true, false, _&&_, false≢true, cond}
+use mathlib.Core.Bool.{true, false, _&&_, false≢true}
 use mathlib.Core.List.{List, []}
-use Prim.Native.Nat.{ℕ, _+_, _-_, _≤_, _<_}
+use Prim.Native.Nat.{ℕ, _+_, _-_, _<_}
 use native.Mathlib.Omega.{arith}
-use lib.ListN.{length, take, drop, take-append-drop, drop-of-length-le, length-drop}
-use lib.Dec.{leb, eqb}
-use borrow.Author.Tests.{eqb-true, leb-true, leb-false, le-leb, lt-leb}
+use lib.ListN.{length, take-append-drop, drop-of-length-le}
+use lib.Dec.{eqb}
+use borrow.Author.Tests.{eqb-true}
 use Rattle.parts.specs.Parts.{inside, part, splice, roomFor, putIn}
-use Rattle.parts.proofs.Laws.{by-test, and-left, inside-yes, span, rest, put-done, put-kept, put-nothing}
+use Rattle.parts.proofs.Laws.{by-test, and-left, inside-yes, span, rest, put-done, put-kept}
 use Rattle.fdl.specs.Status.{isShort, carried}
 use Rattle.fdl.specs.declared.telegram.Telegram.{Telegram}
 use Rattle.fdl.specs.declared.telegram.Telegram.the-variants.{ShortConfirmation, Data as DataReply, Token, Request as RequestTelegram}
-use Rattle.payloads.specs.Diagnosis.{taken, extended, diagnosisOf, flag}
+use Rattle.payloads.specs.Diagnosis.{taken}
 use Rattle.payloads.specs.Request.{isDiagnosis}
 use Rattle.payloads.specs.declared.request.Request.{Request}
 use Rattle.payloads.specs.declared.request.Request.the-variants.{Diagnosis, Parameters, Configuration, Data}
@@ -23,7 +23,7 @@ use Rattle.station.specs.Visit.{requestOf}
 use Rattle.station.specs.Heard.{dataHeard, isExchanged}
 use Rattle.station.proofs.Heards.{diagnosis-keeps, acknowledgement-keeps, data-fits}
 use Rattle.peripheral.specs.declared.record.Peripheral.{Peripheral}
-use Rattle.peripheral.specs.Response.{partFits, extendedIn, stationTook, fitsImage, answerTo, keepsOf, replyOf, withImage, withPart, Kept, diagnosisTaken, inputsOf, diagsOf}
+use Rattle.peripheral.specs.Response.{payloadPart, stationDiagnosed, fitsImage, answerTo, keepsOf, replyOf, withImage, withPart, Kept, diagnosisTaken, inputsOf, diagsOf}
 
 -- ---- parts and puts
 
@@ -60,7 +60,7 @@ module _ (t : Telegram) (p : Peripheral) (payload inputs diags : List ℕ) where
   -- a taken diagnosis reports no DataExchanged, and one that is not taken neither
   pub diagnosis-event : isExchanged (answerTo Diagnosis t p payload (length inputs) (length diags) .event) ≡ false
   unfolding answerTo
-  diagnosis-event = by-test (taken t (length payload)) (λ e. rw e (diagnosis-keeps (stateOf (p .station .state)) (stationTook p payload (length diags)))) (λ e. rw e refl)
+  diagnosis-event = by-test (taken t (length payload)) (λ e. rw e (diagnosis-keeps (stateOf (p .station .state)) (stationDiagnosed p payload (length diags)))) (λ e. rw e refl)
 
   pub fits : isExchanged (answerTo Data t p payload (length inputs) (length diags) .event) ≡ true → fitsImage t p (length payload) (length inputs) ≡ true
   unfolding answerTo
@@ -73,7 +73,7 @@ module _ (t : Telegram) (p : Peripheral) (payload inputs diags : List ℕ) where
     input-pool : (k : Request) → Stands k → outInputs ≡ inputsOf (answerTo k t p payload (length inputs) (length diags) .event) (carried t payload) p inputs
     unfolding keepsOf answerTo
     input-pool Diagnosis s =
-        rw diagnosis-event (by-test (taken t (length payload) && extendedIn p payload (length diags) .stores) (λ e. rw e at (s .inputPool)) (λ e. rw e at (s .inputPool)))
+        rw diagnosis-event (by-test (taken t (length payload) && payloadPart p payload (length diags) .fits) (λ e. rw e at (s .inputPool)) (λ e. rw e at (s .inputPool)))
     input-pool Parameters s = rw (acknowledgement-keeps (isShort t) WaitForConfig (p .station)) (s .inputPool)
     input-pool Configuration s = rw (acknowledgement-keeps (isShort t) ValidateConfig (p .station)) (s .inputPool)
     input-pool Data s =
@@ -84,7 +84,7 @@ module _ (t : Telegram) (p : Peripheral) (payload inputs diags : List ℕ) where
     diag-pool : (k : Request) → Stands k → outDiags ≡ diagsOf (isDiagnosis k && taken t (length payload)) p payload diags
     unfolding keepsOf answerTo
     diag-pool Diagnosis s =
-        by-test (taken t (length payload) && extendedIn p payload (length diags) .stores) (λ e. rw e (rw e at (s .diagPool))) (λ e. rw e (rw e at (s .diagPool)))
+        by-test (taken t (length payload) && payloadPart p payload (length diags) .fits) (λ e. rw e (rw e at (s .diagPool))) (λ e. rw e (rw e at (s .diagPool)))
     diag-pool Parameters s = s .diagPool
     diag-pool Configuration s = s .diagPool
     diag-pool Data s =

@@ -40,15 +40,15 @@ partFits p flags n diags =
 -- how many bytes are stored then: those from byte 6 on, else as before
 abbrev pub extendedOf : Peripheral → ℕ → ℕ → ℕ → Extended
 extendedOf p flags n diags =
-    record { stores = partFits p flags n diags; stored = cond (partFits p flags n diags) (n - 6) (p .station .«diag_len») }
+    record { fits = partFits p flags n diags; len = cond (partFits p flags n diags) (n - 6) (p .station .«diag_len») }
 
 -- the same of a payload
-abbrev pub extendedIn : Peripheral → List ℕ → ℕ → Extended
-extendedIn p payload diags = extendedOf p (diagnosisOf payload .flags) (length payload) diags
+abbrev pub payloadPart : Peripheral → List ℕ → ℕ → Extended
+payloadPart p payload diags = extendedOf p (diagnosisOf payload .flags) (length payload) diags
 
 -- the station that took it
-unfoldable pub stationTook : Peripheral → List ℕ → ℕ → Station
-stationTook p payload diags = withDiagnosis (diagnosisOf payload) (extendedIn p payload diags .stored) (p .station)
+unfoldable pub stationDiagnosed : Peripheral → List ℕ → ℕ → Station
+stationDiagnosed p payload diags = withDiagnosis (diagnosisOf payload) (payloadPart p payload diags .len) (p .station)
 
 -- ---- the input image
 
@@ -64,14 +64,14 @@ fitsImage RequestTelegram p n inputs = false
 -- what the station makes of it
 unfoldable pub answerTo : Request → Telegram → Peripheral → List ℕ → ℕ → ℕ → Heard
 answerTo Diagnosis t p payload inputs diags =
-    cond (taken t (length payload)) (diagnosisHeard (stateOf (p .station .state)) (stationTook p payload diags)) (diagnosisMissed (stateOf (p .station .state)) (p .station))
+    cond (taken t (length payload)) (diagnosisHeard (stateOf (p .station .state)) (stationDiagnosed p payload diags)) (diagnosisMissed (stateOf (p .station .state)) (p .station))
 answerTo Parameters t p payload inputs diags = acknowledgementHeard (isShort t) WaitForConfig (p .station)
 answerTo Configuration t p payload inputs diags = acknowledgementHeard (isShort t) ValidateConfig (p .station)
 answerTo Data t p payload inputs diags = dataHeard t (fitsImage t p (length payload) inputs) (p .station)
 
 -- what of its payload is kept, with this event
 unfoldable pub keepsOf : Request → Telegram → Peripheral → List ℕ → ℕ → PeripheralEvent → Keeps
-keepsOf Diagnosis t p payload diags e = cond (taken t (length payload) && extendedIn p payload diags .stores) Part Nothing
+keepsOf Diagnosis t p payload diags e = cond (taken t (length payload) && payloadPart p payload diags .fits) Part Nothing
 keepsOf Parameters t p payload diags e = Nothing
 keepsOf Configuration t p payload diags e = Nothing
 keepsOf Data t p payload diags e = cond (isExchanged e) Image Nothing
@@ -124,4 +124,4 @@ inputsOf e came p inputs = cond (isExchanged e) (withImage p came inputs) inputs
 
 -- the pool for diagnosis after a reply that was taken as one, or not
 abbrev pub diagsOf : Bool → Peripheral → List ℕ → List ℕ → List ℕ
-diagsOf took p payload diags = cond (took && extendedIn p payload (length diags) .stores) (withPart p payload diags) diags
+diagsOf took p payload diags = cond (took && payloadPart p payload (length diags) .fits) (withPart p payload diags) diags

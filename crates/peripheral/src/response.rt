@@ -22,10 +22,10 @@ pub enum Keeps {
     Part,
 }
 
-// What becomes of the extended part of a diagnosis: whether it is stored, and how many bytes are stored then.
+// The extended part of a diagnosis: whether there is one that fits its room, and how many bytes are stored then.
 pub struct Extended {
-    pub stores: bool,
-    pub stored: u8,
+    pub fits: bool,
+    pub len: u8,
 }
 
 // The peripheral after a reply, what is reported, and what is to be kept.
@@ -35,11 +35,11 @@ pub struct Reply {
     pub keeps: Keeps,
 }
 
-// The extended part where it is stored.
-fn part_if(stores: bool) -> Keeps
-    ensures { λ r. ⌜ r ≡ cond stores Keeps.Part Keeps.Nothing ⌝ }
+// The extended part where it fits.
+fn part_if(fits: bool) -> Keeps
+    ensures { λ r. ⌜ r ≡ cond fits Keeps.Part Keeps.Nothing ⌝ }
 {
-    if stores { Keeps::Part } else { Keeps::Nothing }
+    if fits { Keeps::Part } else { Keeps::Nothing }
 }
 
 // The image with DataExchanged.
@@ -69,15 +69,15 @@ impl Peripheral {
             if len <= room + 6 {
                 if parts::inside(parts::widen16(self.ranges.diag), room, diags) {
                     return Extended {
-                        stores: true,
-                        stored: (len - 6) as u8,
+                        fits: true,
+                        len: (len - 6) as u8,
                     };
                 }
             }
         }
         Extended {
-            stores: false,
-            stored: self.station.diag_len,
+            fits: false,
+            len: self.station.diag_len,
         }
     }
 
@@ -132,7 +132,7 @@ impl Peripheral {
         if diagnosis::is_taken(telegram, payload.len()) {
             let d = diagnosis::read_diagnosis(payload);
             let e = self.extended(d.flags, payload.len(), diags);
-            return self.with_heard(s.diagnosis_heard(d, e.stored), part_if(e.stores));
+            return self.with_heard(s.diagnosis_heard(d, e.len), part_if(e.fits));
         }
         self.with_heard(s.diagnosis_missed(), Keeps::Nothing)
     }

@@ -1,6 +1,6 @@
 -- What a visit changes and keeps, and which visits send what.
 -- The idea: a visit is one of three, and each state is about one request.
-use mathlib.Core.Path.{_≡_, refl, sym, ap, _∙_}
+use mathlib.Core.Path.{_≡_, refl, sym}
 use mathlib.Core.Bool.{Bool, true, false, _&&_, false≢true, cond}
 use Prim.Native.Nat.{ℕ}
 use lib.Dec.{ltb, leb}

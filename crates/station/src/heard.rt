@@ -2,11 +2,12 @@
 ghost use mathlib.Core.Path.{_≡_};
 ghost use mathlib.Core.Bool.{false};
 ghost use Rattle.station.specs.State.{stateOf};
-ghost use Rattle.station.specs.Record.{inState, dueIs, withDiagnosis};
+ghost use Rattle.station.specs.Record.{inState, cycling, dueIs, withDiagnosis};
 ghost use Rattle.station.specs.Heard.{reports, byFlags, diagnosisHeard, countMissed, diagnosisMissed, acknowledgementHeard, exchangedOf, statusHeard, dataHeard};
 use crate::record::Station;
 use crate::state::PeripheralEvent;
 use crate::state::PeripheralState;
+use fdl::telegram::FrameCountBit;
 use fdl::telegram::Telegram;
 use payloads::diagnosis::DiagnosticFlags;
 use payloads::diagnosis::DiagnosticsInfo;
@@ -102,7 +103,7 @@ fn by_status(status: u8, fits: bool, p: Station) -> Heard
 
 impl PeripheralState {
     // The count after a diagnosis that is not taken.
-    pub fn count_missed(self, count: u8) -> u8
+    fn count_missed(self, count: u8) -> u8
         ensures { λ r. ⌜ r ≡ countMissed self count ⌝ }
     {
         match self {
@@ -117,6 +118,15 @@ impl PeripheralState {
 }
 
 impl Station {
+    // With the frame bit cycled.
+    fn cycled(self) -> Station
+        ensures { λ r. ⌜ r ≡ cycling self ⌝ }
+    {
+        let mut s = self;
+        s.fcb = FrameCountBit::of(self.fcb).cycle().number();
+        s
+    }
+
     // A diagnosis was asked for and is taken; so many bytes of it are stored.
     pub fn diagnosis_heard(self, diag: DiagnosticsInfo, stored: u8) -> Heard
         ensures { λ r. ⌜ r ≡ diagnosisHeard (stateOf (self .state)) (withDiagnosis diag stored self) ⌝ }

@@ -1,7 +1,7 @@
 // The part of a peripheral's record that visits and replies change.
 ghost use mathlib.Core.Path.{_≡_};
 ghost use mathlib.Core.Bool.{true};
-ghost use Rattle.station.specs.Record.{newStation, cycling, dueIs, isLive, isRunning, lastDiagnosis, storedPart};
+ghost use Rattle.station.specs.Record.{newStation, dueIs, isLive, isRunning, lastDiagnosis, storedPart};
 use crate::state::PeripheralState;
 use fdl::telegram::FrameCountBit;
 use payloads::diagnosis::DiagnosticsInfo;
@@ -46,15 +46,6 @@ impl Station {
         ensures { λ r. ⌜ r ≡ isRunning self ⌝ }
     {
         PeripheralState::of(self.state).is_running()
-    }
-
-    // With the frame bit cycled.
-    pub fn cycled(self) -> Station
-        ensures { λ r. ⌜ r ≡ cycling self ⌝ }
-    {
-        let mut s = self;
-        s.fcb = FrameCountBit::of(self.fcb).cycle().number();
-        s
     }
 
     // A wish for a diagnosis.

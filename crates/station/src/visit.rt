@@ -33,7 +33,7 @@ fn exchange_request(due: bool) -> Request
 
 impl PeripheralState {
     // The request that the state is about: a visit sends it, and a reply is judged as its answer.
-    pub fn request(self, due: bool) -> Request
+    fn request(self, due: bool) -> Request
         ensures { λ r. ⌜ r ≡ requestIn self due ⌝ }
     {
         match self {
@@ -47,7 +47,7 @@ impl PeripheralState {
     }
 
     // Whether it can be sent; user parameters and configuration are present or not.
-    pub fn can_send(self, count: u8, user: bool, config: bool) -> bool
+    fn can_send(self, count: u8, user: bool, config: bool) -> bool
         ensures { λ r. ⌜ r ≡ canSend self count user config ⌝ }
     {
         match self {

@@ -1,7 +1,7 @@
 -- `handle_diagnostics_response` meets its contract: taken or not.
 use mathlib.Core.Path.{sym, _∙_}
 use Rattle.payloads.proofs.Facts.{taken-six}
-use Rattle.peripheral.specs.Response.{stationTook, answerTo, keepsOf}
+use Rattle.peripheral.specs.Response.{stationDiagnosed, answerTo, keepsOf}
 use borrow.Author.Needs.{needs}
 use Rattle.peripheral.proofs.record.Peripheral.handle_diagnostics_response.Statement.{
   statement,
@@ -27,7 +27,7 @@ with-heard-requires : tie.Need-with-heard-requires
 with-heard-requires c κs = search needs
 
 returns : tie.Need-returns
-unfolding stationTook answerTo keepsOf
+unfolding stationDiagnosed answerTo keepsOf
 returns c =
     let at-diagnosis-heard = c .before .before in
     let at-extended = at-diagnosis-heard .before in

@@ -2,7 +2,6 @@
 use mathlib.Core.Path.{ap, _∙_}
 use mathlib.Core.List.{List}
 use Prim.Native.Nat.{ℕ}
-use native.Mathlib.Omega.{arith}
 use Rattle.parts.specs.Parts.{putIn}
 use Rattle.parts.proofs.Laws.{rest}
 use Rattle.peripheral.proofs.Pools.{no-tail}

@@ -1,6 +1,5 @@
 -- `action` meets its contract: the count first, then whether the request can be sent.
-use mathlib.Core.Path.{sym, ap, _∙_}
-use mathlib.Core.Bool.{Bool}
+use mathlib.Core.Path.{sym, _∙_}
 use borrow.Author.Tests.{lt-ltb, le-ltb}
 use Rattle.station.specs.Visit.{actionOf}
 use borrow.Author.Needs.{needs}
