@@ -47,29 +47,33 @@ loop-again c =
 finish-requires : tie.Need-finish-requires Inv-loop μ-loop
 finish-requires c κs = tt
 
+-- Way stations, nearest first.
+abbrev to-loop : tie.After-slice-known19 Inv-loop μ-loop → tie.At-loop Inv-loop μ-loop
+to-loop c = c .before .before .before .before .before
+
 same-length : tie.Need-same-length Inv-loop μ-loop
-same-length c = c .before .before .before .before .before .loop .inv .0
+same-length c = to-loop c .loop .inv .0
 
 same-length-2 : tie.Need-same-length-2 Inv-loop μ-loop
-same-length-2 c = c .before .before .before .before .before .loop .inv .1
+same-length-2 c = to-loop c .loop .inv .1
 
 same-length-3 : tie.Need-same-length-3 Inv-loop μ-loop
-same-length-3 c = c .before .before .before .before .before .loop .inv .2
+same-length-3 c = to-loop c .loop .inv .2
 
 same-length-4 : tie.Need-same-length-4 Inv-loop μ-loop
-same-length-4 c = c .before .before .before .before .before .loop .inv .3
+same-length-4 c = to-loop c .loop .inv .3
 
 same-length-5 : tie.Need-same-length-5 Inv-loop μ-loop
-same-length-5 c = c .before .before .before .before .before .loop .inv .4
+same-length-5 c = to-loop c .loop .inv .4
 
 same-length-6 : tie.Need-same-length-6 Inv-loop μ-loop
-same-length-6 c = c .before .before .before .before .before .loop .inv .5
+same-length-6 c = to-loop c .loop .inv .5
 
 same-length-7 : tie.Need-same-length-7 Inv-loop μ-loop
-same-length-7 c = c .before .before .before .before .before .loop .inv .6
+same-length-7 c = to-loop c .loop .inv .6
 
 same-length-8 : tie.Need-same-length-8 Inv-loop μ-loop
-same-length-8 c = c .before .before .before .before .before .loop .inv .7
+same-length-8 c = to-loop c .loop .inv .7
 
 same-length-9 : tie.Need-same-length-9 Inv-loop μ-loop
 same-length-9 c = omega arith

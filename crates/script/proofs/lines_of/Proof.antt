@@ -33,28 +33,32 @@ part-requires c κs = tt
 piece-requires : tie.Need-piece-requires Inv-loop μ-loop
 piece-requires c κs = tt
 
+-- Way stations, nearest first.
+abbrev to-line-end : tie.After-slice-known16 Inv-loop μ-loop → tie.After-line-end Inv-loop μ-loop
+to-line-end c = c .before .before .before .before .before .before .before .before .before .before .before .before .before .before .before .before .before .before .before .before .before .before .before .before .before .before
+
+abbrev to-loop-test : tie.After-slice-known16 Inv-loop μ-loop → tie.In-loop Inv-loop μ-loop
+to-loop-test c = to-line-end c .before
+
+abbrev to-loop : tie.After-slice-known16 Inv-loop μ-loop → tie.At-loop Inv-loop μ-loop
+to-loop c = to-loop-test c .before
+
+abbrev to-start : tie.After-slice-known16 Inv-loop μ-loop → tie.Start Inv-loop μ-loop
+to-start c = to-loop c .before .before .before .before .before .before .before .before .before .before
+
 add-i : tie.Need-add-i Inv-loop μ-loop
 add-i c =
-    let at-line-end = c .before .before .before .before .before .before .before .before .before .before .before .before .before .before .before .before .before .before .before .before .before .before .before .before .before .before in
-    let at-loop-test = at-line-end .before in
-    let at-loop = at-loop-test .before in
-    let at-start = at-loop .before .before .before .before .before .before .before .before .before .before in
-    omega (arith, at-line-end .line-end .ensures, newline-from (at-start .args .chunk .now) (length (at-start .args .chunk .now) - at-loop .loop .i) (at-loop .loop .i), newline-to (at-start .args .chunk .now) (length (at-start .args .chunk .now) - at-loop .loop .i) (at-loop .loop .i), at-start .good, at-loop-test .loop-test .taken)
+    omega (arith, to-line-end c .line-end .ensures, newline-from (to-start c .args .chunk .now) (length (to-start c .args .chunk .now) - to-loop c .loop .i) (to-loop c .loop .i), newline-to (to-start c .args .chunk .now) (length (to-start c .args .chunk .now) - to-loop c .loop .i) (to-loop c .loop .i), to-start c .good, to-loop-test c .loop-test .taken)
 
 loop-less : tie.Need-loop-less Inv-loop μ-loop
 loop-less c =
-    let at-line-end = c .before .before .before .before .before .before .before .before .before .before .before .before .before .before .before .before .before .before .before .before .before .before .before .before .before .before in
-    let at-loop-test = at-line-end .before in
-    let at-loop = at-loop-test .before in
-    let at-start = at-loop .before .before .before .before .before .before .before .before .before .before in
-    omega (arith, at-line-end .line-end .ensures, newline-from (at-start .args .chunk .now) (length (at-start .args .chunk .now) - at-loop .loop .i) (at-loop .loop .i), newline-to (at-start .args .chunk .now) (length (at-start .args .chunk .now) - at-loop .loop .i) (at-loop .loop .i), at-loop-test .loop-test .taken)
+    omega (arith, to-line-end c .line-end .ensures, newline-from (to-start c .args .chunk .now) (length (to-start c .args .chunk .now) - to-loop c .loop .i) (to-loop c .loop .i), newline-to (to-start c .args .chunk .now) (length (to-start c .args .chunk .now) - to-loop c .loop .i) (to-loop c .loop .i), to-loop-test c .loop-test .taken)
 
 loop-again : tie.Need-loop-again Inv-loop μ-loop
 loop-again c =
     let at-piece = c .before .before .before .before .before .before .before .before .before .before .before .before .before .before .before .before in
-    let at-loop = at-piece .before .before .before .before .before .before .before .before .before .before .before .before in
     let p = at-piece .piece .kept in
-    let v = at-loop .loop .inv in
+    let v = to-loop c .loop .inv in
     (p .1 .1 .1 .0 ∙ v .0, p .1 .1 .1 .1 .0 ∙ v .1, p .1 .1 .1 .1 .1 .0 ∙ v .2, p .1 .1 .1 .1 .1 .1 .0 ∙ v .3, p .1 .1 .1 .1 .1 .1 .1 .0 ∙ v .4, p .1 .1 .1 .1 .1 .1 .1 .1 .0 ∙ v .5, p .1 .1 .1 .1 .1 .1 .1 .1 .1 .0 ∙ v .6, p .1 .1 .1 .1 .1 .1 .1 .1 .1 .1 .0 ∙ v .7)
 
 same-length : tie.Need-same-length Inv-loop μ-loop
