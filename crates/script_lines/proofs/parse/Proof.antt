@@ -61,32 +61,36 @@ alone-requires-2 c κs = search needs
 alone-requires-3 : tie.Need-alone-requires-3
 alone-requires-3 c κs = search needs
 
+-- from the letter back to the entry
+abbrev entry : tie.After-byte-at → tie.Start
+entry c = c .before .before
+
 returns : tie.Need-returns
 unfolding callFor firstFor secondFor
 returns c =
     let at-byte-at = c .before .before in
-    let at-start = at-byte-at .before .before in
+    let at-start = entry at-byte-at in
     plain-call (at-start .args .s .now) (at-start .args .a .now) (at-start .args .b .now) _ (at-byte-at .byte-at .result) _ (c .before .match .keys1) (at-byte-at .byte-at .ensures) (c .new .ensures) refl refl
 
 returns-2 : tie.Need-returns-2
 unfolding callFor firstFor secondFor
 returns-2 c =
     let at-byte-at = c .before .before in
-    let at-start = at-byte-at .before .before in
+    let at-start = entry at-byte-at in
     plain-call (at-start .args .s .now) (at-start .args .a .now) (at-start .args .b .now) _ (at-byte-at .byte-at .result) _ (c .before .match .keys2) (at-byte-at .byte-at .ensures) (c .lend .ensures) refl refl
 
 returns-3 : tie.Need-returns-3
 unfolding callFor firstFor secondFor
 returns-3 c =
     let at-byte-at = c .before .before in
-    let at-start = at-byte-at .before .before in
+    let at-start = entry at-byte-at in
     plain-call (at-start .args .s .now) (at-start .args .a .now) (at-start .args .b .now) _ (at-byte-at .byte-at .result) _ (c .before .match .keys3) (at-byte-at .byte-at .ensures) (c .fill-pools .ensures) refl refl
 
 returns-4 : tie.Need-returns-4
 unfolding callFor firstFor secondFor
 returns-4 c =
     let at-byte-at = c .before .before in
-    let at-start = at-byte-at .before .before in
+    let at-start = entry at-byte-at in
     plain-call (at-start .args .s .now) (at-start .args .a .now) (at-start .args .b .now) _ (at-byte-at .byte-at .result) _ (c .before .match .keys4) (at-byte-at .byte-at .ensures) (c .fill-payload .ensures) refl refl
 
 returns-5 : tie.Need-returns-5
@@ -94,21 +98,21 @@ unfolding callFor firstFor secondFor
 returns-5 c =
     let at-match = c .before .before .before in
     let at-byte-at = at-match .before in
-    let at-start = at-byte-at .before .before in
+    let at-start = entry at-byte-at in
     add-call (at-start .args .s .now) (at-start .args .a .now) (at-start .args .b .now) _ _ _ (at-byte-at .byte-at .result) (at-match .match .keys5) (at-byte-at .byte-at .ensures) (c .add .ensures)
 
 returns-6 : tie.Need-returns-6
 unfolding callFor firstFor secondFor
 returns-6 c =
     let at-byte-at = c .before .before in
-    let at-start = at-byte-at .before .before in
+    let at-start = entry at-byte-at in
     plain-call (at-start .args .s .now) (at-start .args .a .now) (at-start .args .b .now) _ (at-byte-at .byte-at .result) _ (c .before .match .keys6) (at-byte-at .byte-at .ensures) (c .state .ensures) refl refl
 
 returns-7 : tie.Need-returns-7
 unfolding callFor firstFor secondFor
 returns-7 c =
     let at-byte-at = c .before .before in
-    let at-start = at-byte-at .before .before in
+    let at-start = entry at-byte-at in
     plain-call (at-start .args .s .now) (at-start .args .a .now) (at-start .args .b .now) _ (at-byte-at .byte-at .result) _ (c .before .match .keys7) (at-byte-at .byte-at .ensures) (c .turn .ensures) refl refl
 
 returns-8 : tie.Need-returns-8
@@ -116,21 +120,21 @@ unfolding callFor firstFor secondFor
 returns-8 c =
     let at-match = c .before .before in
     let at-byte-at = at-match .before in
-    let at-start = at-byte-at .before .before in
+    let at-start = entry at-byte-at in
     reply-call (at-start .args .s .now) (at-start .args .a .now) (at-start .args .b .now) _ _ (at-byte-at .byte-at .result) (at-match .match .keys8) (at-byte-at .byte-at .ensures) (c .reply .ensures)
 
 returns-9 : tie.Need-returns-9
 unfolding callFor firstFor secondFor
 returns-9 c =
     let at-byte-at = c .before .before in
-    let at-start = at-byte-at .before .before in
+    let at-start = entry at-byte-at in
     plain-call (at-start .args .s .now) (at-start .args .a .now) (at-start .args .b .now) _ (at-byte-at .byte-at .result) _ (c .before .match .keys9) (at-byte-at .byte-at .ensures) (c .reset .ensures) refl refl
 
 returns-10 : tie.Need-returns-10
 unfolding callFor firstFor secondFor
 returns-10 c =
     let at-byte-at = c .before .before in
-    let at-start = at-byte-at .before .before in
+    let at-start = entry at-byte-at in
     plain-call (at-start .args .s .now) (at-start .args .a .now) (at-start .args .b .now) _ (at-byte-at .byte-at .result) _ (c .before .match .keys10) (at-byte-at .byte-at .ensures) (c .wish .ensures) refl refl
 
 returns-11 : tie.Need-returns-11
@@ -138,49 +142,49 @@ unfolding callFor firstFor secondFor
 returns-11 c =
     let at-match = c .before .before in
     let at-byte-at = at-match .before in
-    let at-start = at-byte-at .before .before in
+    let at-start = entry at-byte-at in
     write-call (at-start .args .s .now) (at-start .args .a .now) (at-start .args .b .now) _ _ (at-byte-at .byte-at .result) (at-match .match .keys11) (at-byte-at .byte-at .ensures) (c .write .ensures)
 
 returns-12 : tie.Need-returns-12
 unfolding callFor firstFor secondFor
 returns-12 c =
     let at-byte-at = c .before .before in
-    let at-start = at-byte-at .before .before in
+    let at-start = entry at-byte-at in
     plain-call (at-start .args .s .now) (at-start .args .a .now) (at-start .args .b .now) _ (at-byte-at .byte-at .result) _ (c .before .match .keys12) (at-byte-at .byte-at .ensures) (c .inputs .ensures) refl refl
 
 returns-13 : tie.Need-returns-13
 unfolding callFor firstFor secondFor
 returns-13 c =
     let at-byte-at = c .before .before in
-    let at-start = at-byte-at .before .before in
+    let at-start = entry at-byte-at in
     plain-call (at-start .args .s .now) (at-start .args .a .now) (at-start .args .b .now) _ (at-byte-at .byte-at .result) _ (c .before .match .keys13) (at-byte-at .byte-at .ensures) (c .outputs .ensures) refl refl
 
 returns-14 : tie.Need-returns-14
 unfolding callFor firstFor secondFor
 returns-14 c =
     let at-byte-at = c .before .before in
-    let at-start = at-byte-at .before .before in
+    let at-start = entry at-byte-at in
     plain-call (at-start .args .s .now) (at-start .args .a .now) (at-start .args .b .now) _ (at-byte-at .byte-at .result) _ (c .before .match .keys14) (at-byte-at .byte-at .ensures) (c .diagnosis .ensures) refl refl
 
 returns-15 : tie.Need-returns-15
 unfolding callFor firstFor secondFor
 returns-15 c =
     let at-byte-at = c .before .before in
-    let at-start = at-byte-at .before .before in
+    let at-start = entry at-byte-at in
     plain-call (at-start .args .s .now) (at-start .args .a .now) (at-start .args .b .now) _ (at-byte-at .byte-at .result) _ (c .before .match .keys15) (at-byte-at .byte-at .ensures) (c .alone .ensures) refl refl
 
 returns-16 : tie.Need-returns-16
 unfolding callFor firstFor secondFor
 returns-16 c =
     let at-byte-at = c .before .before in
-    let at-start = at-byte-at .before .before in
+    let at-start = entry at-byte-at in
     plain-call (at-start .args .s .now) (at-start .args .a .now) (at-start .args .b .now) _ (at-byte-at .byte-at .result) _ (c .before .match .keys16) (at-byte-at .byte-at .ensures) (c .alone2 .ensures) refl refl
 
 returns-17 : tie.Need-returns-17
 unfolding callFor firstFor secondFor
 returns-17 c =
     let at-byte-at = c .before .before in
-    let at-start = at-byte-at .before .before in
+    let at-start = entry at-byte-at in
     plain-call (at-start .args .s .now) (at-start .args .a .now) (at-start .args .b .now) _ (at-byte-at .byte-at .result) _ (c .before .match .keys17) (at-byte-at .byte-at .ensures) (c .alone3 .ensures) refl refl
 
 returns-18 : tie.Need-returns-18

@@ -20,52 +20,56 @@ front-requires-3 c κs = search needs
 front-requires-4 : tie.Need-front-requires-4
 front-requires-4 c κs = search needs
 
+-- from the first lent front back to the entry
+abbrev entry : tie.After-front → tie.Start
+entry c = c .before .before .before .before .before .before .before .before .before
+
 slice-relend-prefix-add : tie.Need-slice-relend-prefix-add
 slice-relend-prefix-add c =
     let at-front = c .before .before .before in
-    let at-start = at-front .before .before .before .before .before .before .before .before .before in
+    let at-start = entry at-front in
     front-le (at-start .args .run .lent .setup) (at-front .front .result) (at-start .args .setup .now) (at-front .front .ensures)
 
 slice-aggregate-add : tie.Need-slice-aggregate-add
 slice-aggregate-add c =
     let at-front = c .before .before .before .before in
-    let at-start = at-front .before .before .before .before .before .before .before .before .before in
+    let at-start = entry at-front in
     front-size (at-start .args .run .lent .setup) (at-front .front .result) (at-start .args .setup .now) (at-front .front .ensures)
 
 slice-relend-prefix-add-2 : tie.Need-slice-relend-prefix-add-2
 slice-relend-prefix-add-2 c =
     let at-front2 = c .before .before .before in
-    let at-start = at-front2 .before .before .before .before .before .before .before .before .before .before in
+    let at-start = entry (at-front2 .before) in
     front-le (at-start .args .run .lent .inputs) (at-front2 .front2 .result) (at-start .args .inputs .now) (at-front2 .front2 .ensures)
 
 slice-aggregate-add-2 : tie.Need-slice-aggregate-add-2
 slice-aggregate-add-2 c =
     let at-front2 = c .before .before .before .before in
-    let at-start = at-front2 .before .before .before .before .before .before .before .before .before .before in
+    let at-start = entry (at-front2 .before) in
     front-size (at-start .args .run .lent .inputs) (at-front2 .front2 .result) (at-start .args .inputs .now) (at-front2 .front2 .ensures)
 
 slice-relend-prefix-add-3 : tie.Need-slice-relend-prefix-add-3
 slice-relend-prefix-add-3 c =
     let at-front3 = c .before .before .before in
-    let at-start = at-front3 .before .before .before .before .before .before .before .before .before .before .before in
+    let at-start = entry (at-front3 .before .before) in
     front-le (at-start .args .run .lent .outputs) (at-front3 .front3 .result) (at-start .args .outputs .now) (at-front3 .front3 .ensures)
 
 slice-aggregate-add-3 : tie.Need-slice-aggregate-add-3
 slice-aggregate-add-3 c =
     let at-front3 = c .before .before .before .before in
-    let at-start = at-front3 .before .before .before .before .before .before .before .before .before .before .before in
+    let at-start = entry (at-front3 .before .before) in
     front-size (at-start .args .run .lent .outputs) (at-front3 .front3 .result) (at-start .args .outputs .now) (at-front3 .front3 .ensures)
 
 slice-relend-prefix-add-4 : tie.Need-slice-relend-prefix-add-4
 slice-relend-prefix-add-4 c =
     let at-front4 = c .before .before .before in
-    let at-start = at-front4 .before .before .before .before .before .before .before .before .before .before .before .before in
+    let at-start = entry (at-front4 .before .before .before) in
     front-le (at-start .args .run .lent .diags) (at-front4 .front4 .result) (at-start .args .diags .now) (at-front4 .front4 .ensures)
 
 slice-aggregate-add-4 : tie.Need-slice-aggregate-add-4
 slice-aggregate-add-4 c =
     let at-front4 = c .before .before .before .before in
-    let at-start = at-front4 .before .before .before .before .before .before .before .before .before .before .before .before in
+    let at-start = entry (at-front4 .before .before .before) in
     front-size (at-start .args .run .lent .diags) (at-front4 .front4 .result) (at-start .args .diags .now) (at-front4 .front4 .ensures)
 
 add-requires : tie.Need-add-requires
@@ -90,7 +94,7 @@ returns c =
     let at-front3 = at-front4 .before in
     let at-front2 = at-front3 .before in
     let at-front = at-front2 .before in
-    let at-start = at-front .before .before .before .before .before .before .before .before .before in
+    let at-start = entry at-front in
     let a = at-start .args in
     let t = at-add .add in
     let s = at-front .front in
