@@ -11,8 +11,8 @@ use Rattle.fdl.specs.declared.telegram.FrameCountBit.the-variants.{First, Low, 
 use Rattle.fdl.specs.declared.telegram.Telegram.{Telegram}
 use Rattle.payloads.specs.declared.request.Request.{Request}
 use Rattle.station.specs.declared.record.Station.{Station}
-use Rattle.station.specs.declared.reply.Heard.{Heard}
-use Rattle.station.specs.Record.{tookOf}
+use Rattle.station.specs.declared.heard.Heard.{Heard}
+use Rattle.station.specs.Record.{withDiagnosis}
 use Rattle.cycle.specs.declared.seen.Sent.{Sent}
 use Rattle.cycle.specs.declared.seen.Sent.the-variants.{Nobody, To}
 use Rattle.cycle.specs.declared.state.Step.{Step}
@@ -44,7 +44,7 @@ back Inactive = refl
 
 bit-row : (s : Station) (t : Telegram) (payload : List ℕ) (n : ℕ) {k : Request} {h : Heard} → RowOf s t payload n k h
     → bitOf (h .station .fcb) ≡ cond (cycles (some k) (s .«diag_needed») t payload) (cycled (bitOf (s .fcb))) (bitOf (s .fcb))
-unfolding tookOf
+unfolding withDiagnosis
 bit-row s t payload n (comes-online x e) = rw e (back _)
 bit-row s t payload n (stays-offline x e) = rw e refl
 bit-row s t payload n (param-confirmed x e) = rw e (back _)

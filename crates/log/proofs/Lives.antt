@@ -8,7 +8,7 @@ use mathlib.Core.Option.{Option, none, some}
 use lib.Dec.{T}
 use lib.ListN.{length}
 use Rattle.parts.specs.Parts.{zeros}
-use Rattle.fdl.specs.Reply.{carried}
+use Rattle.fdl.specs.Status.{carried}
 use Rattle.fdl.specs.declared.telegram.Telegram.{Telegram}
 use Rattle.fdl.specs.declared.telegram.Telegram.the-variants.{ShortConfirmation, Data as DataReply, Token, Request as RequestTelegram}
 use Rattle.payloads.specs.declared.request.Request.{Request}
@@ -18,20 +18,21 @@ use Rattle.payloads.specs.Diagnosis.{diagnosisOf, taken}
 use Rattle.station.specs.declared.visit.Visited.{Visited}
 use Rattle.station.specs.declared.visit.Visited.the-variants.{Sends, Drops, Skips}
 use Rattle.station.specs.declared.record.Station.{Station}
-use Rattle.station.specs.declared.reply.Heard.{Heard}
+use Rattle.station.specs.declared.heard.Heard.{Heard}
 use Rattle.station.specs.declared.state.PeripheralState.{PeripheralState}
 use Rattle.station.specs.declared.state.PeripheralState.the-variants.{Offline, WaitForParam, WaitForConfig, ValidateConfig, PreDataExchange, DataExchange}
 use Rattle.station.specs.State.{stateOf}
-use Rattle.station.specs.Record.{dueIs, tookOf}
+use Rattle.station.specs.Record.{dueIs, withDiagnosis}
 use Rattle.station.specs.Visit.{visitedOf}
-use Rattle.station.specs.Reply.{isExchanged, awaitsDiagnosis}
-use Rattle.station.proofs.Rows.{exchanging, coded, ReplyRow, diagnosis-row, parameters-row, configuration-row, data-row}
+use Rattle.station.specs.Heard.{isExchanged}
+use Rattle.station.proofs.Rows.{exchanging, coded, ReplyRow, heardFor, diagnosis-row, parameters-row, configuration-row, data-row}
 use Rattle.peripheral.specs.declared.record.Peripheral.{Peripheral}
 use Rattle.peripheral.specs.Record.{newBalance, resetOf, stationIs}
-use Rattle.peripheral.specs.Visit.{wishesOf, visitedBy}
-use Rattle.peripheral.specs.Reply.{storedLength, stationTook, hearsOf}
+use Rattle.peripheral.specs.Visit.{visitAction, visitedBy}
+use Rattle.peripheral.specs.Response.{payloadPart, stationDiagnosed, fitsImage, answerTo}
+use Rattle.peripheral.proofs.Laws.{answer-heard}
 use Rattle.valid.specs.Valid.{fits, Fits}
-use Rattle.valid.proofs.Stations.{wish-fits, fits-due}
+use Rattle.valid.proofs.Stations.{action-fits, fits-due}
 use Rattle.cycle.specs.declared.refusal.Lengths.{Lengths}
 use Rattle.cycle.specs.declared.refusal.Used.{Used}
 use Rattle.master.specs.declared.add.Addition.{Addition}
@@ -65,7 +66,7 @@ heardSlot t payload h x = slotOf none (stationIs (h .station) (x .balance)) (con
 
 -- a reply to a balance, in the words of its notes; n: how many bytes of a diagnosis are stored
 abbrev pub RowOf : Station → Telegram → List ℕ → ℕ → Request → Heard → Type 0
-RowOf s t payload n k h = ReplyRow s (tookOf (diagnosisOf payload) n s) t (taken t (length payload)) (hasStatus 3 t) (hasStatus 10 t) k h
+RowOf s t payload n k h = ReplyRow s (withDiagnosis (diagnosisOf payload) n s) t (taken t (length payload)) (hasStatus 3 t) (hasStatus 10 t) k h
 
 -- limit: the unit's `max_retry_limit`; then the slot and its notes
 pub data Lives (limit : ℕ) : Slot → List Note → Type 0 where
@@ -76,9 +77,9 @@ pub data Lives (limit : ℕ) : Slot → List Note → Type 0 where
   -- a caller wishes for a diagnosis
   wishes : {x : Slot} {l : List Note} → Lives limit x l → Lives limit (stays (x .request) (dueIs true (x .balance .station)) x) (wished ∷ l)
   -- a turn visits it
-  sends : {x : Slot} {l : List Note} {q : Request} → Lives limit x l → wishesOf limit (x .balance) ≡ Sends q → Lives limit (stays (some q) (visitedOf (Sends q) (x .balance .station)) x) (asked q ∷ l)
-  drops : {x : Slot} {l : List Note} → Lives limit x l → wishesOf limit (x .balance) ≡ Drops → Lives limit (stays none (visitedOf Drops (x .balance .station)) x) (wentOffline ∷ l)
-  skips : {x : Slot} {l : List Note} → Lives limit x l → wishesOf limit (x .balance) ≡ Skips → Lives limit (stays none (visitedOf Skips (x .balance .station)) x) l
+  sends : {x : Slot} {l : List Note} {q : Request} → Lives limit x l → visitAction limit (x .balance) ≡ Sends q → Lives limit (stays (some q) (visitedOf (Sends q) (x .balance .station)) x) (asked q ∷ l)
+  lost : {x : Slot} {l : List Note} → Lives limit x l → visitAction limit (x .balance) ≡ Drops → Lives limit (stays none (visitedOf Drops (x .balance .station)) x) (wentOffline ∷ l)
+  skips : {x : Slot} {l : List Note} → Lives limit x l → visitAction limit (x .balance) ≡ Skips → Lives limit (stays none (visitedOf Skips (x .balance .station)) x) l
   -- a turn does not visit it, or the reply is another slot's: no request stays open
   rests : {x : Slot} {l : List Note} → Lives limit x l → Lives limit (slotOf none (x .balance) (x .image)) l
   -- its request is answered
@@ -98,23 +99,25 @@ kindOf Drops = none
 kindOf Skips = none
 
 module _ {limit : ℕ} {x : Slot} {l : List Note} (i : Lives limit x l) where
-  visit-lives : (v : Visited) → wishesOf limit (x .balance) ≡ v → Lives limit (stays (kindOf v) (visitedOf v (x .balance .station)) x) (visitNote v l)
+  visit-lives : (v : Visited) → visitAction limit (x .balance) ≡ v → Lives limit (stays (kindOf v) (visitedOf v (x .balance .station)) x) (visitNote v l)
   visit-lives (Sends q) e = sends i e
-  visit-lives Drops e = drops i e
+  visit-lives Drops e = lost i e
   visit-lives Skips e = skips i e
 
-  pub lives-visited : Lives limit (slotOf (kindOf (wishesOf limit (x .balance))) (visitedBy limit (x .balance)) (x .image)) (visitNote (wishesOf limit (x .balance)) l)
-  lives-visited = visit-lives (wishesOf limit (x .balance)) refl
+  pub lives-visited : Lives limit (slotOf (kindOf (visitAction limit (x .balance))) (visitedBy limit (x .balance)) (x .image)) (visitNote (visitAction limit (x .balance)) l)
+  lives-visited = visit-lives (visitAction limit (x .balance)) refl
 
 -- ---- a reply to the open request is in a row
 
-fits-diagnosis : (x : PeripheralState) (d : Bool) → T (fits x d (kindNumber Diagnosis)) → awaitsDiagnosis x d ≡ true
+fits-diagnosis : (x : PeripheralState) (d : Bool) → T (fits x d (kindNumber Diagnosis)) → isDiagnosis (requestIn x d) ≡ true
 fits-diagnosis Offline d h = refl
 fits-diagnosis WaitForParam d h = absurd h
 fits-diagnosis WaitForConfig d h = absurd h
 fits-diagnosis ValidateConfig d h = refl
-fits-diagnosis PreDataExchange d h = is-true d h
-fits-diagnosis DataExchange d h = is-true d h
+fits-diagnosis PreDataExchange true h = refl
+fits-diagnosis PreDataExchange false h = absurd h
+fits-diagnosis DataExchange true h = refl
+fits-diagnosis DataExchange false h = absurd h
 
 fits-parameters : (x : PeripheralState) (d : Bool) → T (fits x d (kindNumber Parameters)) → x ≡ WaitForParam
 fits-parameters Offline d h = absurd h
@@ -146,17 +149,17 @@ status-is n (DataReply dsap ssap c) = refl
 status-is n Token = refl
 status-is n RequestTelegram = refl
 
-module _ (t : Telegram) (p : Peripheral) (payload inputs diags : List ℕ) where
+module _ (t : Telegram) (p : Peripheral) (payload : List ℕ) (inputs diags : ℕ) where
   coded-row : (k : Request) → Fits (p .station) (kindNumber k)
-      → ReplyRow (p .station) (tookOf (diagnosisOf payload) (storedLength p payload diags) (p .station)) t (taken t (length payload)) (coded 3 t) (coded 10 t) k (hearsOf t p payload inputs diags)
-  unfolding hearsOf stationTook
-  coded-row Diagnosis f = diagnosis-row _ _ _ _ _ _ (fits-diagnosis (stateOf (p .station .state)) (p .station .«diag_needed») f)
-  coded-row Parameters f = parameters-row _ _ _ _ _ _ (fits-parameters (stateOf (p .station .state)) (p .station .«diag_needed») f)
-  coded-row Configuration f = configuration-row _ _ _ _ _ _ (fits-configuration (stateOf (p .station .state)) (p .station .«diag_needed») f)
-  coded-row Data f = data-row _ _ _ _ _ _ (fits-data (stateOf (p .station .state)) (p .station .«diag_needed») f)
+      → ReplyRow (p .station) (stationDiagnosed p payload diags) t (taken t (length payload)) (coded 3 t) (coded 10 t) k (heardFor (requestOf (p .station)) t (taken t (length payload)) (stationDiagnosed p payload diags) (fitsImage t p (length payload) inputs) (p .station))
+  coded-row Diagnosis f = diagnosis-row _ _ _ _ _ (fits-diagnosis (stateOf (p .station .state)) (p .station .«diag_needed») f)
+  coded-row Parameters f = parameters-row _ _ _ _ _ (fits-parameters (stateOf (p .station .state)) (p .station .«diag_needed») f)
+  coded-row Configuration f = configuration-row _ _ _ _ _ (fits-configuration (stateOf (p .station .state)) (p .station .«diag_needed») f)
+  coded-row Data f = data-row _ _ _ _ _ (fits-data (stateOf (p .station .state)) (p .station .«diag_needed») f)
 
-  pub replied-row : (k : Request) → Fits (p .station) (kindNumber k) → RowOf (p .station) t payload (storedLength p payload diags) k (hearsOf t p payload inputs diags)
-  replied-row k f = rw (← status-is 3 t, ← status-is 10 t) (coded-row k f)
+  pub replied-row : (k : Request) → Fits (p .station) (kindNumber k) → RowOf (p .station) t payload (payloadPart p payload diags .len) k (answerTo (requestOf (p .station)) t p payload inputs diags)
+  unfolding stationDiagnosed
+  replied-row k f = rw (← status-is 3 t, ← status-is 10 t, answer-heard (requestOf (p .station)) t p payload inputs diags) (coded-row k f)
 
 -- ---- the open request is the one that was asked last, and fits the state
 
@@ -172,8 +175,8 @@ pub opened : {limit : ℕ} {x : Slot} {l : List Note} → Lives limit x l → As
 opened (joins a user config used l) = tt
 opened (moves v a) = tt
 opened (wishes {x = x} {l = l} v) = opened-wished (x .request) (x .balance .station) l (opened v)
-opened {limit} (sends {x = x} v e) = (refl, rw e at (wish-fits (x .balance .options .«has_user_parameters») (x .balance .options .«has_config») (x .balance .station) limit))
-opened (drops v e) = tt
+opened {limit} (sends {x = x} v e) = (refl, rw e at (action-fits (x .balance .options .«has_user_parameters») (x .balance .options .«has_config») (x .balance .station) limit))
+opened (lost v e) = tt
 opened (skips v e) = tt
 opened (rests v) = tt
 opened (gets v o n r) = tt
@@ -186,8 +189,8 @@ module _ {limit : ℕ} {x : Slot} {l : List Note} {q : Request} (v : Lives limit
   last-asked = open-is .0
 
   -- the request that is open is answered
-  pub replies : (t : Telegram) (payload inputs diags : List ℕ) → let h = hearsOf t (x .balance) payload inputs diags in Lives limit (heardSlot t payload h x) (got t payload (h .event) ∷ l)
-  replies t payload inputs diags = gets v o (storedLength (x .balance) payload diags) (replied-row t (x .balance) payload inputs diags q (open-is .1))
+  pub replies : (t : Telegram) (payload : List ℕ) (inputs diags : ℕ) → let h = answerTo (requestOf (x .balance .station)) t (x .balance) payload inputs diags in Lives limit (heardSlot t payload h x) (got t payload (h .event) ∷ l)
+  replies t payload inputs diags = gets v o (payloadPart (x .balance) payload diags .len) (replied-row t (x .balance) payload inputs diags q (open-is .1))
 
 -- ---- a fact of slots, as its laws; each may use what is known of the slot before
 
@@ -195,9 +198,9 @@ pub record SlotFact (limit : ℕ) (P : Slot → List Note → Type 0) : Type 0 w
   pub on-added : (a : Addition) (user config : List ℕ) (used : Used) (l : List Note) → P (newSlot a (lengthsOf a user config) used) (wasAdded a ∷ l)
   pub on-reset : {x : Slot} {l : List Note} → Lives limit x l → P x l → (address : ℕ) → P (movedSlot address x) (readdressed ∷ l)
   pub on-wish : {x : Slot} {l : List Note} → Lives limit x l → P x l → P (stays (x .request) (dueIs true (x .balance .station)) x) (wished ∷ l)
-  pub on-sent : {x : Slot} {l : List Note} → Lives limit x l → P x l → (q : Request) → wishesOf limit (x .balance) ≡ Sends q → P (stays (some q) (visitedOf (Sends q) (x .balance .station)) x) (asked q ∷ l)
-  pub on-fell : {x : Slot} {l : List Note} → Lives limit x l → P x l → wishesOf limit (x .balance) ≡ Drops → P (stays none (visitedOf Drops (x .balance .station)) x) (wentOffline ∷ l)
-  pub on-skipped : {x : Slot} {l : List Note} → Lives limit x l → P x l → wishesOf limit (x .balance) ≡ Skips → P (stays none (visitedOf Skips (x .balance .station)) x) l
+  pub on-sent : {x : Slot} {l : List Note} → Lives limit x l → P x l → (q : Request) → visitAction limit (x .balance) ≡ Sends q → P (stays (some q) (visitedOf (Sends q) (x .balance .station)) x) (asked q ∷ l)
+  pub on-fell : {x : Slot} {l : List Note} → Lives limit x l → P x l → visitAction limit (x .balance) ≡ Drops → P (stays none (visitedOf Drops (x .balance .station)) x) (wentOffline ∷ l)
+  pub on-skipped : {x : Slot} {l : List Note} → Lives limit x l → P x l → visitAction limit (x .balance) ≡ Skips → P (stays none (visitedOf Skips (x .balance .station)) x) l
   pub on-rest : {x : Slot} {l : List Note} → Lives limit x l → P x l → P (slotOf none (x .balance) (x .image)) l
   pub on-reply : {x : Slot} {l : List Note} → Lives limit x l → P x l → (q : Request) (t : Telegram) (payload : List ℕ) (n : ℕ) (h : Heard) → x .request ≡ some q → RowOf (x .balance .station) t payload n q h
       → P (heardSlot t payload h x) (got t payload (h .event) ∷ l)
@@ -208,7 +211,7 @@ module _ {limit : ℕ} {P : Slot → List Note → Type 0} (f : SlotFact limit P
   always (moves v a) = f .on-reset v (always v) a
   always (wishes v) = f .on-wish v (always v)
   always (sends v e) = f .on-sent v (always v) _ e
-  always (drops v e) = f .on-fell v (always v) e
+  always (lost v e) = f .on-fell v (always v) e
   always (skips v e) = f .on-skipped v (always v) e
   always (rests v) = f .on-rest v (always v)
   always (gets v o n r) = f .on-reply v (always v) _ _ _ n _ o r

@@ -19,7 +19,7 @@ use Rattle.answers.specs.Turn.{refusedTurn}
 use Rattle.master.specs.Unit.{emptyUnit, createdOf}
 use Rattle.master.specs.Add.{userOf, configOf, lengthsOf}
 use Rattle.master.specs.Turn.{stepAt, sweptBy}
-use Rattle.master.specs.Reply.{replyAt}
+use Rattle.master.specs.Receive.{replyAt}
 use Rattle.master.proofs.Bits.{zero-bit}
 use Rattle.valid.specs.Valid.{Valid, balance, occupied}
 use Rattle.access.specs.Lookup.{foundIn, inputNumber, inputsSeen}

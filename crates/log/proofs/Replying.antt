@@ -10,13 +10,13 @@ use lib.ListN.{length, set}
 use lib.Dec.{T, eqb, ltb}
 use borrow.Author.Tests.{eqb-true, eq-eqb, ltb-true, ltb-false, lt-ltb, not-true}
 use Rattle.parts.proofs.Laws.{by-test}
-use Rattle.fdl.specs.Reply.{carried, usableReply}
+use Rattle.fdl.specs.Status.{carried, usableReply}
 use Rattle.fdl.specs.declared.telegram.Telegram.{Telegram}
 use Rattle.station.specs.declared.state.PeripheralEvent.{PeripheralEvent}
-use Rattle.station.specs.Reply.{isExchanged}
+use Rattle.station.specs.Heard.{isExchanged}
 use Rattle.peripheral.specs.declared.record.Peripheral.{Peripheral}
 use Rattle.peripheral.specs.Record.{inputImage}
-use Rattle.peripheral.specs.Reply.{withHeard, hearsOf, inputsOf}
+use Rattle.peripheral.specs.Response.{withHeard, hearsOf, inputsOf}
 use Rattle.peripheral.proofs.Laws.{inputs-kept, inputs-length, inputs-other, exchanged-image}
 use Rattle.peripheral_set.specs.Marks.{slots, nextAfter}
 use Rattle.peripheral_set.proofs.Laws.{search-found, search-first, search-from}
@@ -25,10 +25,10 @@ use Rattle.cycle.specs.Seen.{indexOf}
 use Rattle.cycle.specs.State.{answered}
 use Rattle.cycle.specs.Refusal.{unless, replyRefusal}
 use Rattle.cycle.proofs.Laws.{passed as gone, after}
-use Rattle.answers.specs.declared.reply.ReplyAnswer.{ReplyAnswer}
+use Rattle.answers.specs.declared.reply_answer.ReplyAnswer.{ReplyAnswer}
 use Rattle.master.specs.declared.unit.DpMaster.{DpMaster}
 use Rattle.master.specs.Unit.{stateIs, balancesAre}
-use Rattle.master.specs.Reply.{openBalance, replyAt}
+use Rattle.master.specs.Receive.{openBalance, replyAt}
 use Rattle.valid.specs.Valid.{Valid, balance, occupied}
 use Rattle.valid.proofs.Balances.{marked-below, open-there}
 use Rattle.log.specs.Calls.{World, lend, back, reply, replied, replyStep, replyNumber}

@@ -12,15 +12,15 @@ use lib.ListN.{drop}
 use Rattle.fdl.specs.declared.telegram.Telegram.{Telegram}
 use Rattle.payloads.specs.declared.request.Request.{Request}
 use Rattle.station.specs.declared.record.Station.{Station}
-use Rattle.station.specs.declared.reply.Heard.{Heard}
-use Rattle.station.specs.Record.{isRunning, tookOf}
-use Rattle.station.specs.Reply.{isExchanged}
+use Rattle.station.specs.declared.heard.Heard.{Heard}
+use Rattle.station.specs.Record.{isRunning, withDiagnosis}
+use Rattle.station.specs.Heard.{isExchanged}
 use Rattle.log.specs.Notes.{Note, isError}
 use Rattle.log.specs.Words.{denies, fall, notEnabled}
 use Rattle.log.specs.Slots.{exchangedBy, Running, RunningTold}
 use Rattle.log.proofs.Wording.{and-l, and-r, and-i, or-e, or-l, or-r}
 use Rattle.station.proofs.Rows.{comes-online, stays-offline, param-confirmed, param-unconfirmed, config-confirmed, config-unconfirmed, param-error, config-error, param-wanted, not-ready, is-configured, unvalidated, diagnosed, undiagnosed, diagnosed-late, undiagnosed-late, data-stored, data-unused, data-denied}
-use Rattle.log.proofs.Lives.{Slot, RowOf, Lives, joins, moves, wishes, sends, drops, skips, rests, gets, last-asked}
+use Rattle.log.proofs.Lives.{Slot, RowOf, Lives, joins, moves, wishes, sends, lost, skips, rests, gets, last-asked}
 use Rattle.log.proofs.Stations.{told}
 use Rattle.log.proofs.Promised.{lives-run}
 
@@ -34,7 +34,7 @@ runs (x ∷ l) = exchangedBy (x ∷ l) || (not (fall (x ∷ l)) && (not (notEnab
 
 running-row : (s : Station) (t : Telegram) (payload : List ℕ) (n : ℕ) {k : Request} {h : Heard} → RowOf s t payload n k h
     → isRunning (h .station) ≡ (isExchanged (h .event) || (not (isError (h .event)) && (not (denies (some k) (s .«diag_needed») t) && isRunning s)))
-unfolding tookOf
+unfolding withDiagnosis
 running-row s t payload n (comes-online x e) = rw x refl
 running-row s t payload n (stays-offline x e) = refl
 running-row s t payload n (param-confirmed x e) = rw x refl
@@ -60,7 +60,7 @@ running (joins a user config used l) = refl
 running (moves v a) = refl
 running (wishes v) = running v
 running (sends v e) = running v
-running (drops v e) = refl
+running (lost v e) = refl
 running (skips v e) = running v
 running (rests v) = running v
 running (gets {x = x} {t = t} {payload = payload} v o n r) = rw (last-asked v o, ← told v .due-is, ← running v) (running-row (x .balance .station) t payload n r)

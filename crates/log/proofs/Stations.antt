@@ -7,24 +7,24 @@ use mathlib.Core.List.{List}
 use mathlib.Core.Option.{Option, some}
 use lib.Dec.{T}
 use borrow.Author.Tests.{ltb-false, le-leb}
-use Rattle.fdl.specs.Reply.{carried}
+use Rattle.fdl.specs.Status.{carried}
 use Rattle.fdl.specs.declared.telegram.Telegram.{Telegram}
 use Rattle.payloads.specs.declared.request.Request.{Request}
 use Rattle.payloads.specs.declared.request.Request.the-variants.{Parameters, Configuration}
 use Rattle.station.specs.declared.record.Station.{Station}
-use Rattle.station.specs.declared.reply.Heard.{Heard}
+use Rattle.station.specs.declared.heard.Heard.{Heard}
 use Rattle.station.specs.declared.state.PeripheralState.{PeripheralState}
 use Rattle.station.specs.declared.state.PeripheralState.the-variants.{Offline, WaitForParam, WaitForConfig, ValidateConfig, PreDataExchange, DataExchange}
 use Rattle.station.specs.State.{stateOf}
-use Rattle.station.specs.Record.{inState, tookOf}
-use Rattle.station.specs.Visit.{wishOf}
-use Rattle.station.specs.Reply.{isExchanged, awaitsData}
-use Rattle.station.proofs.Visits.{falls, asksData, wish-falls, wish-data}
+use Rattle.station.specs.Record.{inState, withDiagnosis}
+use Rattle.station.specs.Visit.{actionOf}
+use Rattle.station.specs.Heard.{isExchanged}
+use Rattle.station.proofs.Visits.{drops, sendsData, action-drops, action-data}
 use Rattle.log.specs.Notes.{Note, isError, isDiagnosed}
 use Rattle.log.specs.Words.{confirms, denies, warns, cleans, dueOf, imageOf}
 use Rattle.log.proofs.Wording.{is-true, and-l, and-r, hasParam, hasConfig, ready}
 use Rattle.station.proofs.Rows.{exchanging, comes-online, stays-offline, param-confirmed, param-unconfirmed, config-confirmed, config-unconfirmed, param-error, config-error, param-wanted, not-ready, is-configured, unvalidated, diagnosed, undiagnosed, diagnosed-late, undiagnosed-late, data-stored, data-unused, data-denied}
-use Rattle.log.proofs.Lives.{Slot, RowOf, Lives, joins, moves, wishes, sends, drops, skips, rests, gets, last-asked}
+use Rattle.log.proofs.Lives.{Slot, RowOf, Lives, joins, moves, wishes, sends, lost, skips, rests, gets, last-asked}
 
 -- ---- what is said
 
@@ -79,19 +79,21 @@ config-is PreDataExchange hp hc rd e h = is-true hc (and-l hc rd h)
 config-is DataExchange hp hc rd e h = is-true hc (and-l hc rd h)
 
 -- data is waited for exactly when no diagnosis is due and the notes say ready
-data-when : (x : PeripheralState) (d : Bool) → awaitsData x d ≡ (not d && exchanging x)
+data-when : (x : PeripheralState) (d : Bool) → isData (requestIn x d) ≡ (not d && exchanging x)
 data-when Offline d = sym (no-and (not d))
 data-when WaitForParam d = sym (no-and (not d))
 data-when WaitForConfig d = sym (no-and (not d))
 data-when ValidateConfig d = sym (no-and (not d))
-data-when PreDataExchange d = sym (and-so (not d))
-data-when DataExchange d = sym (and-so (not d))
+data-when PreDataExchange true = refl
+data-when PreDataExchange false = refl
+data-when DataExchange true = refl
+data-when DataExchange false = refl
 
-pub asked-when : (limit : ℕ) (user config : Bool) (s : Station) (l : List Note) → Told s l → falls (wishOf limit user config s) ≡ false
-    → asksData (wishOf limit user config s) ≡ (not (dueOf l) && ready l)
+pub asked-when : (limit : ℕ) (user config : Bool) (s : Station) (l : List Note) → Told s l → drops (actionOf limit user config s) ≡ false
+    → sendsData (actionOf limit user config s) ≡ (not (dueOf l) && ready l)
 asked-when limit user config s l i f =
-    let within = le-leb (s .«retry_count») limit (ltb-false limit (s .«retry_count») (sym (wish-falls user config s limit) ∙ f)) in
-    wish-data user config s limit ∙ rw (within, ready-is (stateOf (s .state)) (hasParam l) (hasConfig l) (ready l) (i .in-phase), ← i .due-is) (data-when (stateOf (s .state)) (s .«diag_needed»))
+    let within = le-leb (s .«retry_count») limit (ltb-false limit (s .«retry_count») (sym (action-drops user config s limit) ∙ f)) in
+    action-data user config s limit ∙ rw (within, ready-is (stateOf (s .state)) (hasParam l) (hasConfig l) (ready l) (i .in-phase), ← i .due-is) (data-when (stateOf (s .state)) (s .«diag_needed»))
 
 -- ---- the reply
 
@@ -134,7 +136,7 @@ module _ (s : Station) (t : Telegram) (payload : List ℕ) (hp hc rd : Bool) (h 
 
   -- one line a row
   kept : (n : ℕ) {k : Request} {g : Heard} → RowOf s t payload n k g → KeptBy g (some k) t payload hp hc rd (s .«diag_needed»)
-  unfolding tookOf
+  unfolding withDiagnosis
   kept n (comes-online x e) = record { due-ok = refl; phase-ok = not-at-all hc rd _ (rw x at h) }
   kept n (stays-offline x e) = record { due-ok = refl; phase-ok = rw e same }
   kept n (param-confirmed x e) = record { due-ok = refl; phase-ok = rw e (not-yet hc rd (rw x at h)) }
@@ -162,7 +164,7 @@ told (joins a user config used l) = record { due-is = refl; in-phase = tt }
 told (moves v a) = record { due-is = refl; in-phase = tt }
 told (wishes {x = x} {l = l} v) = record { due-is = refl; in-phase = same-words (stateOf (x .balance .station .state)) (hasParam l) (hasConfig l) (ready l) (told v .in-phase) }
 told (sends {x = x} {l = l} v e) = record { due-is = told v .due-is; in-phase = same-words (stateOf (x .balance .station .state)) (hasParam l) (hasConfig l) (ready l) (told v .in-phase) }
-told (drops v e) = record { due-is = told v .due-is; in-phase = tt }
+told (lost v e) = record { due-is = told v .due-is; in-phase = tt }
 told (skips v e) = record { due-is = told v .due-is; in-phase = told v .in-phase }
 told (rests v) = told v
 told (gets {x = x} {l = l} {t = t} {payload = payload} v o n r) =
@@ -174,7 +176,7 @@ image-is (joins a user config used l) = refl
 image-is (moves v a) = image-is v
 image-is (wishes v) = image-is v
 image-is (sends v e) = image-is v
-image-is (drops v e) = image-is v
+image-is (lost v e) = image-is v
 image-is (skips v e) = image-is v
 image-is (rests v) = image-is v
 image-is (gets {t = t} {payload = payload} {h = h} v o n r) = ap (λ (im : List ℕ). cond (isExchanged (h .event)) (carried t payload) im) (image-is v)

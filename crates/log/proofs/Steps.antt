@@ -9,7 +9,7 @@ use lib.Dec.{eqb}
 use Rattle.fdl.specs.declared.parameters.Parameters.{Parameters}
 use Rattle.fdl.specs.declared.telegram.Telegram.{Telegram}
 use Rattle.peripheral.specs.declared.record.Peripheral.{Peripheral}
-use Rattle.peripheral.specs.declared.reply.Reply.{Reply}
+use Rattle.peripheral.specs.declared.response.Reply.{Reply}
 use Rattle.cycle.specs.declared.refusal.Lent.{Lent}
 use Rattle.cycle.specs.declared.refusal.Lengths.{Lengths}
 use Rattle.cycle.specs.declared.state.Step.{Step}
@@ -24,7 +24,7 @@ use Rattle.master.specs.Unit.{stateIs, balanceAt}
 use Rattle.master.specs.Add.{userOf, configOf, lengthsOf}
 use Rattle.answers.specs.Turn.{refusedTurn}
 use Rattle.master.specs.Turn.{Swept, stepAt, sweptBy, turnAnswer}
-use Rattle.master.specs.Reply.{replyAt}
+use Rattle.master.specs.Receive.{replyAt}
 use Rattle.master.specs.Handle.{resetRefusal, balanceIs, doneBy, resetDone, wishDone}
 use Rattle.access.specs.Lookup.{foundIn}
 use Rattle.valid.specs.Valid.{Valid}

@@ -18,10 +18,10 @@ use Rattle.station.specs.declared.visit.Visited.{Visited}
 use Rattle.station.specs.declared.visit.Visited.the-variants.{Sends, Drops, Skips}
 use Rattle.station.specs.declared.state.PeripheralEvent.the-variants.{NoEvent, Offline as WentOffline}
 use Rattle.station.specs.Visit.{visitedOf}
-use Rattle.station.proofs.Visits.{falls, wish-falls, asksData as wantsData}
+use Rattle.station.proofs.Visits.{drops, action-drops, sendsData}
 use Rattle.peripheral.specs.declared.record.Peripheral.{Peripheral}
 use Rattle.peripheral.specs.Record.{blank, stationIs, inputImage}
-use Rattle.peripheral.specs.Visit.{wishesOf, visitedBy}
+use Rattle.peripheral.specs.Visit.{visitAction, visitedBy}
 use Rattle.peripheral_set.specs.Marks.{slots}
 use Rattle.cycle.specs.declared.seen.Seen.{Seen}
 use Rattle.cycle.specs.declared.seen.Sent.{Sent}
@@ -136,15 +136,15 @@ mode-kept Visits (To t k) time s = refl
 
 -- ---- one slot
 
-note-is : (v : Visited) (l : List Note) → cond (falls v) (wentOffline ∷ l) (noteKind (kindOf v) l) ≡ visitNote v l
+note-is : (v : Visited) (l : List Note) → cond (drops v) (wentOffline ∷ l) (noteKind (kindOf v) l) ≡ visitNote v l
 note-is (Sends k) l = refl
 note-is Drops l = refl
 note-is Skips l = refl
 
 -- visited or passed
-lives-by : (limit : ℕ) (p q : Peripheral) (pool : List ℕ) (l : List Note) (k o : Option Request) (b : Bool) → q ≡ cond b (visitedBy limit p) p → o ≡ cond b (kindOf (wishesOf limit p)) none
-    → Lives limit (slotOf k p (inputImage p pool)) l → Lives limit (slotOf o q (inputImage q pool)) (cond (b && falls (wishesOf limit p)) (wentOffline ∷ l) (noteKind (cond b (kindOf (wishesOf limit p)) none) l))
-lives-by limit p q pool l k o true e z i = rw (e, z, note-is (wishesOf limit p) l) (lives-visited i)
+lives-by : (limit : ℕ) (p q : Peripheral) (pool : List ℕ) (l : List Note) (k o : Option Request) (b : Bool) → q ≡ cond b (visitedBy limit p) p → o ≡ cond b (kindOf (visitAction limit p)) none
+    → Lives limit (slotOf k p (inputImage p pool)) l → Lives limit (slotOf o q (inputImage q pool)) (cond (b && drops (visitAction limit p)) (wentOffline ∷ l) (noteKind (cond b (kindOf (visitAction limit p)) none) l))
+lives-by limit p q pool l k o true e z i = rw (e, z, note-is (visitAction limit p) l) (lives-visited i)
 lives-by limit p q pool l k o false e z i = rw (e, z) (rests i)
 
 -- a visit that sent
@@ -191,23 +191,23 @@ module _ (w : World) (l : List Entry) (i : Inv w l) where
   steps-noted Visits p u s n = visits-noted (sweptBy Visits (w .unit) .seen .sent) p u s n
 
   module _ (step : Step) (payload buf : List ℕ) where
-    reported : (s : ℕ) (o : occupied (w .unit) s) → reportedOffline s (turnAnswer step (sweptBy step (w .unit)) (w .unit) payload buf) ≡ (swung step s o .visited && falls (wishesOf (w .unit .parameters .«max_retry_limit») (balance (w .unit) s)))
+    reported : (s : ℕ) (o : occupied (w .unit) s) → reportedOffline s (turnAnswer step (sweptBy step (w .unit)) (w .unit) payload buf) ≡ (swung step s o .visited && drops (visitAction (w .unit .parameters .«max_retry_limit») (balance (w .unit) s)))
     unfolding turnAnswer
     reported s o =
         let x = sweptBy step (w .unit) in
         reported-is (x .seen) (firsts step) (balanceAt (x .balances) (x .seen .first) .station .address) s
-        ∙ (rw (swung step s o .mask) (one-or-none (swung step s o .visited && falls (wishesOf (w .unit .parameters .«max_retry_limit») (balance (w .unit) s)))))
+        ∙ (rw (swung step s o .mask) (one-or-none (swung step s o .visited && drops (visitAction (w .unit .parameters .«max_retry_limit») (balance (w .unit) s)))))
 
     sent-noted : (s : ℕ) (o : occupied (w .unit) s) (n : List Note)
-        → noteAsked s (turnAnswer step (sweptBy step (w .unit)) (w .unit) payload buf .transmission) n ≡ noteKind (cond (swung step s o .visited) (kindOf (wishesOf (w .unit .parameters .«max_retry_limit») (balance (w .unit) s))) none) n
+        → noteAsked s (turnAnswer step (sweptBy step (w .unit)) (w .unit) payload buf .transmission) n ≡ noteKind (cond (swung step s o .visited) (kindOf (visitAction (w .unit .parameters .«max_retry_limit») (balance (w .unit) s))) none) n
     unfolding turnAnswer
     sent-noted s o n = steps-noted step (askedIn (sweptBy step (w .unit))) (w .unit .parameters) s n ∙ ap (λ (k : Option Request). noteKind k n) (swung step s o .kind)
 
     -- the notes of a slot after the turn
     notes-are : (s : ℕ) (o : occupied (w .unit) s) (n : List Note)
         → cond (reportedOffline s (turnAnswer step (sweptBy step (w .unit)) (w .unit) payload buf)) (wentOffline ∷ n) (noteAsked s (turnAnswer step (sweptBy step (w .unit)) (w .unit) payload buf .transmission) n)
-        ≡ cond (swung step s o .visited && falls (wishesOf (w .unit .parameters .«max_retry_limit») (balance (w .unit) s))) (wentOffline ∷ n) (noteKind (cond (swung step s o .visited) (kindOf (wishesOf (w .unit .parameters .«max_retry_limit») (balance (w .unit) s))) none) n)
-    notes-are s o n = rw (reported s o) (ap (λ (y : List Note). cond (swung step s o .visited && falls (wishesOf (w .unit .parameters .«max_retry_limit») (balance (w .unit) s))) (wentOffline ∷ n) y) (sent-noted s o n))
+        ≡ cond (swung step s o .visited && drops (visitAction (w .unit .parameters .«max_retry_limit») (balance (w .unit) s))) (wentOffline ∷ n) (noteKind (cond (swung step s o .visited) (kindOf (visitAction (w .unit .parameters .«max_retry_limit») (balance (w .unit) s))) none) n)
+    notes-are s o n = rw (reported s o) (ap (λ (y : List Note). cond (swung step s o .visited && drops (visitAction (w .unit .parameters .«max_retry_limit») (balance (w .unit) s))) (wentOffline ∷ n) y) (sent-noted s o n))
 
   steps-open : (step : Step) (time s : ℕ) → openAt (afterTurn step (sweptBy step (w .unit) .seen .sent) time (w .unit .state)) s ≡ kindSent s (sweptBy step (w .unit) .seen .sent)
   unfolding sweptBy sweepFrom
@@ -318,12 +318,12 @@ module _ (w : World) (l : List Entry) (i : Inv w l) where
   asked-is t k e o =
       let x = sweptBy Visits (w .unit) in
       let y = swung Visits t o in
-      let v = wishesOf (w .unit .parameters .«max_retry_limit») (balance (w .unit) t) in
+      let v = visitAction (w .unit .parameters .«max_retry_limit») (balance (w .unit) t) in
       rw (e, lt-ltb t slots (marked-below (w .unit) (i .valid) t o)) (y .balance ∙ sent-is v (balance (w .unit) t) k (y .visited) (sym (rw (e, eq-eqb t t refl) at (y .kind))))
 
   -- ---- asked for data
 
-  wants-is : (v : Visited) → isKind Data (kindOf v) ≡ wantsData v
+  wants-is : (v : Visited) → isKind Data (kindOf v) ≡ sendsData v
   wants-is (Sends Diagnosis) = refl
   wants-is (Sends ParameterRequest) = refl
   wants-is (Sends Configuration) = refl
@@ -350,8 +350,8 @@ module _ (w : World) (l : List Entry) (i : Inv w l) where
           let p = balance (w .unit) s in
           let y = sweptBy Visits (w .unit) in
           let x = swung Visits s o in
-          let v = wishesOf (w .unit .parameters .«max_retry_limit») p in
-          let up : falls v ≡ false = not-fell (x .visited) (falls v) _ vis (reported Visits payload buf s o) t in
+          let v = visitAction (w .unit .parameters .«max_retry_limit») p in
+          let up : drops v ≡ false = not-fell (x .visited) (drops v) _ vis (reported Visits payload buf s o) t in
           visits-asked (y .seen .sent) (askedIn y) (w .unit .parameters) s ∙ ap (isKind Data) (rw vis at (x .kind)) ∙ wants-is v
           ∙ asked-when (w .unit .parameters .«max_retry_limit») (p .options .«has_user_parameters») (p .options .«has_config») (p .station) (slotLog s l) (told (i .lives s o)) up
 
@@ -367,7 +367,7 @@ module _ (w : World) (l : List Entry) (i : Inv w l) where
       bitSet s (sweptBy step (w .unit) .seen .mask) ≡ (swung step s o .visited && ltb (w .unit .parameters .«max_retry_limit») (p .station .«retry_count»))
   bit-there step s o =
       let p = balance (w .unit) s in
-      rw (swung step s o .mask, ← wish-falls (p .options .«has_user_parameters») (p .options .«has_config») (p .station) (w .unit .parameters .«max_retry_limit»)) (one-or-none _)
+      rw (swung step s o .mask, ← action-drops (p .options .«has_user_parameters») (p .options .«has_config») (p .station) (w .unit .parameters .«max_retry_limit»)) (one-or-none _)
 
   module _ (step : Step) (payload buf : List ℕ) where
     pub mask-bits : (s : ℕ) → let a = turnAnswer step (sweptBy step (w .unit)) (w .unit) payload buf in
@@ -381,7 +381,7 @@ module _ (w : World) (l : List Entry) (i : Inv w l) where
 
     address-before : (s : ℕ) → occupied (w .unit) s → getD (sweptBy step (w .unit) .balances) s blank .station .address ≡ balance (w .unit) s .station .address
     address-before s o =
-        ap (λ (q : Peripheral). q .station .address) (swung step s o .balance) ∙ address-kept (swung step s o .visited) (wishesOf (w .unit .parameters .«max_retry_limit») (balance (w .unit) s)) (balance (w .unit) s)
+        ap (λ (q : Peripheral). q .station .address) (swung step s o .balance) ∙ address-kept (swung step s o .visited) (visitAction (w .unit .parameters .«max_retry_limit») (balance (w .unit) s)) (balance (w .unit) s)
 
     -- the mask above the slots, and the event
     pub mask-event : let a = turnAnswer step (sweptBy step (w .unit)) (w .unit) payload buf in MaskEvent (w .unit) a

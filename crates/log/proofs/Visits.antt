@@ -18,10 +18,10 @@ use Rattle.parts.proofs.Laws.{by-test, and-left, and-right}
 use Rattle.payloads.specs.declared.request.Request.{Request}
 use Rattle.station.specs.declared.visit.Visited.{Visited}
 use Rattle.station.specs.declared.visit.Visited.the-variants.{Sends, Drops, Skips}
-use Rattle.station.proofs.Visits.{falls}
+use Rattle.station.proofs.Visits.{drops}
 use Rattle.peripheral.specs.declared.record.Peripheral.{Peripheral}
 use Rattle.peripheral.specs.Record.{blank}
-use Rattle.peripheral.specs.Visit.{wishesOf, visitedBy}
+use Rattle.peripheral.specs.Visit.{visitAction, visitedBy}
 use Rattle.peripheral_set.specs.Marks.{slots}
 use Rattle.cycle.specs.declared.seen.Seen.{Seen}
 use Rattle.cycle.specs.declared.seen.Sent.{Sent}
@@ -56,7 +56,7 @@ see-other (Sends k) i s seen d = refl
 see-other Drops i s seen d = or-bit (seen .mask) (bitAt i) s ∙ rw (at-other i s d) (omega arith)
 see-other Skips i s seen d = refl
 
-see-here : (v : Visited) (s : ℕ) (seen : Seen) → s < slots → bit s (seenBy s v seen .mask) ≡ cond (falls v) 1 (bit s (seen .mask))
+see-here : (v : Visited) (s : ℕ) (seen : Seen) → s < slots → bit s (seenBy s v seen .mask) ≡ cond (drops v) 1 (bit s (seen .mask))
 see-here (Sends k) s seen h = refl
 see-here Drops s seen h = or-bit (seen .mask) (bitAt s) s ∙ rw (lt-ltb s slots h, pow-bit-same s) (omega arith)
 see-here Skips s seen h = refl
@@ -92,13 +92,13 @@ record Beside (s : ℕ) (seen : Seen) (ps : List Peripheral) (w : Swept) : Type 
 
 module _ (limit : ℕ) (marks : List Bool) (s : ℕ) where
   one-later : (g : Bool) (i : ℕ) (seen : Seen) (ps : List Peripheral) → s < i → (g ≡ true → idle (seen .sent) ≡ true)
-      → Beside s seen ps (record { seen = cond g (seenBy i (wishesOf limit (getD ps i blank)) seen) seen; balances = cond g (set ps i (visitedBy limit (getD ps i blank))) ps })
+      → Beside s seen ps (record { seen = cond g (seenBy i (visitAction limit (getD ps i blank)) seen) seen; balances = cond g (set ps i (visitedBy limit (getD ps i blank))) ps })
   one-later true i seen ps h f =
       record {
         balance = getD-set-other ps i s (visitedBy limit (getD ps i blank)) blank (λ q. omega arith);
-        mask = see-other (wishesOf limit (getD ps i blank)) i s seen (inr h);
-        kind = kind-later (wishesOf limit (getD ps i blank)) i s seen h (f refl);
-        went = went-later (wishesOf limit (getD ps i blank)) i s seen h (f refl);
+        mask = see-other (visitAction limit (getD ps i blank)) i s seen (inr h);
+        kind = kind-later (visitAction limit (getD ps i blank)) i s seen h (f refl);
+        went = went-later (visitAction limit (getD ps i blank)) i s seen h (f refl);
       }
   one-later false i seen ps h f = record { balance = refl; mask = refl; kind = refl; went = refl }
 
@@ -108,7 +108,7 @@ module _ (limit : ℕ) (marks : List Bool) (s : ℕ) where
   after-slot (suc k) i seen ps h =
       let g = getD marks i false && idle (seen .sent) in
       let a = one-later g i seen ps h (λ e. and-right (getD marks i false) (idle (seen .sent)) e) in
-      let b = after-slot k (i + 1) (cond g (seenBy i (wishesOf limit (getD ps i blank)) seen) seen) (cond g (set ps i (visitedBy limit (getD ps i blank))) ps) (omega arith) in
+      let b = after-slot k (i + 1) (cond g (seenBy i (visitAction limit (getD ps i blank)) seen) seen) (cond g (set ps i (visitedBy limit (getD ps i blank))) ps) (omega arith) in
       record { balance = b .balance ∙ a .balance; mask = b .mask ∙ a .mask; kind = b .kind ∙ a .kind; went = b .went ∙ a .went }
 
 -- ---- what the visits of a turn leave of slot s: visited or not, and if so what its own visit did
@@ -116,8 +116,8 @@ module _ (limit : ℕ) (marks : List Bool) (s : ℕ) where
 pub record Sees (limit s : ℕ) (p : Peripheral) (old : ℕ) (w : Swept) : Type 0 where
   pub visited : Bool
   pub balance : getD (w .balances) s blank ≡ cond visited (visitedBy limit p) p
-  pub mask : bit s (w .seen .mask) ≡ cond (visited && falls (wishesOf limit p)) 1 old
-  pub kind : kindSent s (w .seen .sent) ≡ cond visited (kindOf (wishesOf limit p)) none
+  pub mask : bit s (w .seen .mask) ≡ cond (visited && drops (visitAction limit p)) 1 old
+  pub kind : kindSent s (w .seen .sent) ≡ cond visited (kindOf (visitAction limit p)) none
   pub went : wentTo s (w .seen .sent) ≡ visited
 
 module _ (limit : ℕ) (marks : List Bool) (s : ℕ) (here : s < slots) (marked : getD marks s false ≡ true) where
@@ -125,7 +125,7 @@ module _ (limit : ℕ) (marks : List Bool) (s : ℕ) (here : s < slots) (marked 
       → Sees limit s (getD ps s blank) (bit s (seen .mask)) (sweepFrom (suc k) limit marks s seen ps)
   at-slot k seen ps h e =
       let p = getD ps s blank in
-      let v = wishesOf limit p in
+      let v = visitAction limit p in
       let b = after-slot limit marks s k (s + 1) (seenBy s v seen) (set ps s (visitedBy limit p)) (omega arith) in
       subst (Sees limit s p (bit s (seen .mask))) (sym (sweep-visit limit marks k s seen ps marked e))
       (record {
@@ -171,7 +171,7 @@ module _ (limit : ℕ) (marks : List Bool) (s : ℕ) (here : s < slots) (marked 
     unfolding Rest
     one-before =
         by-test (getD marks i false)
-        (λ m. subst (Sees limit s (getD ps s blank) (bit s (seen .mask))) (sym (sweep-visit limit marks k i seen ps m e)) (one (wishesOf limit (getD ps i blank)) (visitedBy limit (getD ps i blank))))
+        (λ m. subst (Sees limit s (getD ps s blank) (bit s (seen .mask))) (sym (sweep-visit limit marks k i seen ps m e)) (one (visitAction limit (getD ps i blank)) (visitedBy limit (getD ps i blank))))
         (λ m. subst (Sees limit s (getD ps s blank) (bit s (seen .mask))) (sym (sweep-skip limit marks k i seen ps m)) (rest seen ps h e))
 
   none-left : (k i : ℕ) → i + 0 ≡ s → Rest (0 + suc k) i
@@ -198,8 +198,8 @@ module _ (limit : ℕ) (marks : List Bool) (s : ℕ) (here : s < slots) (marked 
 pub record Swung (limit from s : ℕ) (p : Peripheral) (w : Swept) : Type 0 where
   pub visited : Bool
   pub balance : getD (w .balances) s blank ≡ cond visited (visitedBy limit p) p
-  pub mask : bit s (w .seen .mask) ≡ cond (visited && falls (wishesOf limit p)) 1 0
-  pub kind : kindSent s (w .seen .sent) ≡ cond visited (kindOf (wishesOf limit p)) none
+  pub mask : bit s (w .seen .mask) ≡ cond (visited && drops (visitAction limit p)) 1 0
+  pub kind : kindSent s (w .seen .sent) ≡ cond visited (kindOf (visitAction limit p)) none
   pub went : (leb from s && wentTo s (w .seen .sent)) ≡ visited
 
 pub all-visits : (limit : ℕ) (marks : List Bool) (from s : ℕ) (ps : List Peripheral) → s < slots → s < length ps → getD marks s false ≡ true
@@ -264,8 +264,8 @@ sweep-first limit marks (suc k) i seen ps h f =
     let z : i + suc k ≡ (i + 1) + k = omega arith in
     rw z (sweep-first limit marks k (i + 1) _ _ (omega arith) (step (getD marks i false && idle (seen .sent))))
   where
-    step : (g : Bool) → Firsts (i + 1) (cond g (seenBy i (wishesOf limit (getD ps i blank)) seen) seen)
-    step true = see-first (wishesOf limit (getD ps i blank)) i seen (omega arith) f
+    step : (g : Bool) → Firsts (i + 1) (cond g (seenBy i (visitAction limit (getD ps i blank)) seen) seen)
+    step true = see-first (visitAction limit (getD ps i blank)) i seen (omega arith) f
     step false = later i seen f
 
 pub all-first : (limit : ℕ) (marks : List Bool) (from : ℕ) (ps : List Peripheral) → from ≤ slots → Firsts slots (sweepFrom (slots - from) limit marks from nothingSeen ps .seen)
@@ -284,8 +284,8 @@ unfolding sweepFrom
 empty-bit limit marks s zero i seen ps e = refl
 empty-bit limit marks s (suc k) i seen ps e = empty-bit limit marks s k (i + 1) _ _ e ∙ step (getD marks i false && idle (seen .sent)) refl
   where
-    step : (g : Bool) → (getD marks i false && idle (seen .sent)) ≡ g → bit s (cond g (seenBy i (wishesOf limit (getD ps i blank)) seen) seen .mask) ≡ bit s (seen .mask)
+    step : (g : Bool) → (getD marks i false && idle (seen .sent)) ≡ g → bit s (cond g (seenBy i (visitAction limit (getD ps i blank)) seen) seen .mask) ≡ bit s (seen .mask)
     step true q =
-        see-other (wishesOf limit (getD ps i blank)) i s seen
+        see-other (visitAction limit (getD ps i blank)) i s seen
         (not-same i s (λ z. false≢true (sym e ∙ subst (λ (n : ℕ). getD marks n false ≡ true) z (and-left (getD marks i false) (idle (seen .sent)) q))))
     step false q = refl

@@ -6,11 +6,11 @@ use mathlib.Core.List.{List, _++_}
 use lib.ListN.{length, take, drop}
 use lib.Dec.{eqb}
 use Rattle.parts.specs.Parts.{putIn}
-use Rattle.fdl.specs.Reply.{carried}
+use Rattle.fdl.specs.Status.{carried}
 use Rattle.fdl.specs.declared.telegram.Telegram.{Telegram}
 use Rattle.peripheral.specs.declared.record.Peripheral.{Peripheral}
-use Rattle.peripheral.specs.declared.reply.Reply.{Reply}
-use Rattle.peripheral.specs.Reply.{inputsOf, diagsOf, takes}
+use Rattle.peripheral.specs.declared.response.Reply.{Reply}
+use Rattle.peripheral.specs.Response.{inputsOf, diagsOf, diagnosisTaken}
 use Rattle.peripheral_set.specs.declared.PeripheralHandle.{PeripheralHandle}
 use Rattle.peripheral_set.specs.Marks.{firstEmpty}
 use Rattle.cycle.specs.declared.refusal.Lent.{Lent}
@@ -20,16 +20,16 @@ use Rattle.cycle.specs.declared.state.Step.{Step}
 use Rattle.cycle.specs.Refusal.{turnRefusal, replyRefusal}
 use Rattle.cycle.specs.State.{entered}
 use Rattle.answers.specs.declared.turn.TurnAnswer.{TurnAnswer}
-use Rattle.answers.specs.declared.reply.ReplyAnswer.{ReplyAnswer}
+use Rattle.answers.specs.declared.reply_answer.ReplyAnswer.{ReplyAnswer}
 use Rattle.answers.specs.Turn.{refusedTurn}
-use Rattle.answers.specs.Reply.{refusedReply}
+use Rattle.answers.specs.ReplyAnswer.{refusedReply}
 use Rattle.master.specs.declared.unit.DpMaster.{DpMaster}
 use Rattle.master.specs.declared.unit.Done.{Done}
 use Rattle.master.specs.declared.add.Addition.{Addition}
 use Rattle.master.specs.Unit.{stateIs}
 use Rattle.master.specs.Add.{userOf, configOf, lengthsOf, setupAfter, cleared, unitAdded, refusalOf}
 use Rattle.master.specs.Turn.{Swept, stepAt, sweptBy, unitTurned, turnPayload, turnAnswer}
-use Rattle.master.specs.Reply.{openBalance, replyAt, replyAnswer, unitReplied}
+use Rattle.master.specs.Receive.{openBalance, replyAt, replyAnswer, unitReplied}
 use Rattle.master.specs.Handle.{resetDone, wishDone}
 use Rattle.access.specs.Lookup.{foundIn, outputNumber, writeRefusal}
 
@@ -138,7 +138,7 @@ replyStep ok n is t payload ni nd w =
                   setup = w .pools .setup;
                   inputs = afterLent ok ni (inputsOf (is .event) (carried t payload) (openBalance (w .unit))) (w .pools .inputs);
                   outputs = w .pools .outputs;
-                  diags = afterLent ok nd (diagsOf (takes t (openBalance (w .unit)) (length payload)) (openBalance (w .unit)) payload) (w .pools .diags);
+                  diags = afterLent ok nd (diagsOf (diagnosisTaken t (openBalance (w .unit)) (length payload)) (openBalance (w .unit)) payload) (w .pools .diags);
                 };
           };
       answer = replied (cond ok (replyAnswer (w .unit) is) (refusedReply n));

@@ -17,7 +17,8 @@ use Rattle.payloads.specs.declared.request.Request.{Request}
 use Rattle.payloads.specs.declared.request.Request.the-variants.{Diagnosis, Parameters as ParameterRequest, Configuration, Data}
 use Rattle.payloads.specs.Diagnosis.{taken}
 use Rattle.station.specs.Record.{isRunning}
-use Rattle.station.specs.Reply.{isExchanged, isShort}
+use Rattle.fdl.specs.Status.{isShort}
+use Rattle.station.specs.Heard.{isExchanged}
 use Rattle.answers.specs.declared.turn.Transmission.{Transmission}
 use Rattle.answers.specs.declared.turn.Transmission.the-variants.{Nothing, Control, Request as Asks}
 use Rattle.valid.specs.Valid.{balance}

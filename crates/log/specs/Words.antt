@@ -7,14 +7,15 @@ use mathlib.Core.Option.{Option, none, some}
 use lib.Dec.{T, eqb}
 use lib.ListN.{length, drop}
 use Rattle.parts.specs.Parts.{zeros}
-use Rattle.fdl.specs.Reply.{carried}
+use Rattle.fdl.specs.Status.{carried}
 use Rattle.fdl.specs.declared.telegram.Telegram.{Telegram}
 use Rattle.fdl.specs.declared.telegram.Telegram.the-variants.{ShortConfirmation, Data as DataReply, Token, Request as RequestTelegram}
 use Rattle.payloads.specs.declared.request.Request.{Request}
 use Rattle.payloads.specs.declared.request.Request.the-variants.{Diagnosis, Parameters, Configuration, Data}
 use Rattle.payloads.specs.Request.{kindNumber}
 use Rattle.payloads.specs.Diagnosis.{taken, flag, diagnosisOf}
-use Rattle.station.specs.Reply.{isExchanged, isShort}
+use Rattle.fdl.specs.Status.{isShort}
+use Rattle.station.specs.Heard.{isExchanged}
 use Rattle.answers.specs.declared.turn.Transmission.{Transmission}
 use Rattle.log.specs.Notes.{ofRequest, Note, wished, wentOffline, ofAdded, ofAsked, ofReply, isNote, fresh, isDiagnosed, isError}
 

@@ -11,7 +11,7 @@ use Rattle.peripheral.specs.Record.{stationIs}
 use Rattle.cycle.specs.Seen.{indexOf}
 use Rattle.answers.specs.declared.turn.TurnAnswer.{TurnAnswer}
 use Rattle.answers.specs.Turn.{refusedTurn}
-use Rattle.answers.specs.Reply.{refusedReply}
+use Rattle.answers.specs.ReplyAnswer.{refusedReply}
 use Rattle.master.specs.Unit.{balancesAre, balanceAt}
 use Rattle.log.specs.Calls.{World, Call, add, enter, turn, reply, reset, wish, write, hand, Answer, number, added, turned, replied, Outcome, unitIs, step}
 

@@ -14,7 +14,7 @@ use Rattle.parts.proofs.Laws.{by-test, and-left, and-right, room-own, part-put,
 use Rattle.fdl.specs.Status.{isShort, carried}
 use Rattle.fdl.specs.declared.telegram.Telegram.{Telegram}
 use Rattle.fdl.specs.declared.telegram.Telegram.the-variants.{ShortConfirmation, Data as DataReply, Token, Request as RequestTelegram}
-use Rattle.payloads.specs.Diagnosis.{extended, diagnosisOf, flag}
+use Rattle.payloads.specs.Diagnosis.{taken, extended, diagnosisOf, flag}
 use Rattle.payloads.specs.declared.request.Request.{Request}
 use Rattle.payloads.specs.declared.request.Request.the-variants.{Diagnosis, Parameters, Configuration, Data}
 use Rattle.station.specs.declared.state.PeripheralEvent.{PeripheralEvent}
@@ -22,10 +22,21 @@ use Rattle.station.specs.declared.state.PeripheralState.the-variants.{WaitForCo
 use Rattle.station.specs.Visit.{requestOf}
 use Rattle.station.specs.Heard.{isExchanged}
 use Rattle.station.proofs.Heards.{acknowledgement-keeps}
+use Rattle.station.proofs.Rows.{heardFor}
 use Rattle.peripheral.specs.declared.record.Peripheral.{Peripheral}
 use Rattle.peripheral.specs.Record.{inputImage}
-use Rattle.peripheral.specs.Response.{partFits, fitsImage, answerTo, replyOf, withImage, withPart, inputsOf, diagsOf}
+use Rattle.peripheral.specs.Response.{partFits, stationDiagnosed, fitsImage, answerTo, replyOf, withImage, withPart, inputsOf, diagsOf}
 use Rattle.peripheral.proofs.Pools.{diagnosis-event, fits}
+
+-- ---- what a balance makes of a reply is what its station makes of it
+
+pub answer-heard : (k : Request) (t : Telegram) (p : Peripheral) (payload : List ℕ) (inputs diags : ℕ)
+    → answerTo k t p payload inputs diags ≡ heardFor k t (taken t (length payload)) (stationDiagnosed p payload diags) (fitsImage t p (length payload) inputs) (p .station)
+unfolding answerTo
+answer-heard Diagnosis t p payload inputs diags = refl
+answer-heard Parameters t p payload inputs diags = refl
+answer-heard Configuration t p payload inputs diags = refl
+answer-heard Data t p payload inputs diags = refl
 
 -- ---- the input pool
 

@@ -1,15 +1,15 @@
 -- No answer is longer than `longest`, so none is cut off: the place that `place` answers has room for it.
 -- The idea: a field has at most 21 bytes whatever its number is, so an answer is bounded by how many fields it has.
 use mathlib.Core.Path.{_≡_, refl, sym, ap, _∙_}
-use mathlib.Core.Bool.{Bool, true, false, cond}
+use mathlib.Core.Bool.{Bool, true, false}
 use mathlib.Core.List.{List, [], _∷_, _++_}
-use Prim.Native.Nat.{ℕ, zero, suc, _+_, _*_, _/_, _≤_, _<_}
+use Prim.Native.Nat.{ℕ, zero, suc, _+_, _*_, _/_, _≤_}
 use native.Mathlib.Omega.{arith}
 use lib.ListN.{length, length-append, length-set, set, getD}
 use lib.Dec.{leb, ltb, eqb}
 use borrow.Author.Tests.{leb-true}
 use Rattle.parts.proofs.Laws.{by-test}
-use Rattle.script_fields.specs.Write.{Out, written, decimalIn, digitOf, fieldText, fieldsText, hexText, bytesText, newline, flagNumber, sumOf}
+use Rattle.script_fields.specs.Write.{Out, written, decimalIn, digitOf, fieldText, fieldsText, hexText, bytesText, newline, sumOf}
 use Rattle.script_fields.proofs.Laws.{put-in}
 use Rattle.fdl.specs.declared.telegram.DataTelegramHeader.{DataTelegramHeader}
 use Rattle.fdl.specs.declared.parameters.Parameters.{Parameters}
@@ -23,7 +23,7 @@ use Rattle.cycle.specs.declared.state.DpMasterState.{DpMasterState}
 use Rattle.answers.specs.declared.turn.Transmission.{Transmission}
 use Rattle.answers.specs.declared.turn.Transmission.the-variants.{Nothing, Control, Request}
 use Rattle.answers.specs.declared.turn.TurnAnswer.{TurnAnswer}
-use Rattle.answers.specs.declared.reply.ReplyAnswer.{ReplyAnswer}
+use Rattle.answers.specs.declared.reply_answer.ReplyAnswer.{ReplyAnswer}
 use Rattle.master.specs.declared.unit.DpMaster.{DpMaster}
 use Rattle.script_answers.specs.Answer.{bareText, numberedText, addedText, headerText, transmissionText, turnText, replyText, imageText, diagnosisText, listingText}
 use Rattle.script_dump.specs.declared.Sums.{Sums}
@@ -129,11 +129,20 @@ slot-most : (i : ℕ) (p : Peripheral) → length (slotText i p) ≤ 525
 unfolding slotText
 slot-most i p =
     let o = p .options in
-    let e = fieldsText (p .ranges .«input_len» ∷ p .ranges .«output_len» ∷ p .ranges .«diag_room» ∷ p .ranges .setup ∷ p .ranges .inputs ∷ p .ranges .outputs ∷ p .ranges .diag ∷ []) in
-    let c = setupText (o .«has_config») (o .config) in
-    let u = setupText (o .«has_user_parameters») (o .«user_parameters») in
-    let h : length (u ++ (c ++ e)) ≤ 189 = omega (arith, length-append u (c ++ e), length-append c e, setup-most (o .«has_config») (o .config), setup-most (o .«has_user_parameters») (o .«user_parameters»), fields-most (p .ranges .«input_len» ∷ p .ranges .«output_len» ∷ p .ranges .«diag_room» ∷ p .ranges .setup ∷ p .ranges .inputs ∷ p .ranges .outputs ∷ p .ranges .diag ∷ [])) in
-    line-most _ (u ++ (c ++ e)) 16 189 refl h
+    let r = p .ranges in
+    let behind = r .«input_len» ∷ r .«output_len» ∷ r .«diag_room» ∷ r .setup ∷ r .inputs ∷ r .outputs ∷ r .diag ∷ [] in
+    let user = setupText (o .«has_user_parameters») (o .«user_parameters») in
+    let config = setupText (o .«has_config») (o .config) in
+    let h : length (user ++ (config ++ fieldsText behind)) ≤ 189 =
+    omega (
+      arith,
+      length-append user (config ++ fieldsText behind),
+      length-append config (fieldsText behind),
+      setup-most (o .«has_user_parameters») (o .«user_parameters»),
+      setup-most (o .«has_config») (o .config),
+      fields-most behind,
+    ) in
+    line-most _ (user ++ (config ++ fieldsText behind)) 16 189 refl h
 
 slot-if-most : (occupied : Bool) (i : ℕ) (p : Peripheral) → length (slotIf occupied i p) ≤ 525
 unfolding slotIf

@@ -6,20 +6,20 @@ use Rattle.parts.specs.Parts.{part, inside, putIn, roomFor, splice}
 use Rattle.fdl.specs.Params.{inRange, inForce}
 use Rattle.payloads.specs.Payload.{paramHead, controlPayload}
 use Rattle.payloads.specs.Diagnosis.{diagnosisOf}
-use Rattle.station.specs.Record.{tookOf}
-use Rattle.station.specs.Visit.{wishOf}
-use Rattle.station.specs.Reply.{byFlags, heardOf}
+use Rattle.station.specs.Record.{withDiagnosis}
+use Rattle.station.specs.Visit.{actionOf}
+use Rattle.station.specs.Heard.{byFlags, heardOf}
 use Rattle.peripheral.specs.Visit.{payloadOf}
-use Rattle.peripheral.specs.Reply.{storedLength, diagsTaken, stationTook, isImage, hearsOf}
+use Rattle.peripheral.specs.Response.{storedLength, diagsTaken, stationTook, isImage, hearsOf}
 use Rattle.peripheral_set.specs.Marks.{searchFrom}
 use Rattle.cycle.specs.State.{controlDue}
 use Rattle.cycle.specs.Refusal.{turnRefusal, replyRefusal, addressRefusal, lengthRefusal, roomRefusal, addRefusal}
 use Rattle.master.specs.Unit.{emptyUnit, createdOf}
 use Rattle.master.specs.Turn.{sweepFrom, sweptBy, turnPayload, turnAnswer}
-use Rattle.master.specs.Reply.{replyAt}
+use Rattle.master.specs.Receive.{replyAt}
 use Rattle.log.specs.Calls.{step}
 use Rattle.trial_table.specs.Table.{table, lineOf, marked, expectedIn}
 
 pub rows-hold : map lineOf table ≡ expectedIn marked table
-unfolding step inRange inForce createdOf emptyUnit addRefusal addressRefusal lengthRefusal roomRefusal part inside putIn roomFor splice paramHead controlPayload diagnosisOf tookOf wishOf byFlags heardOf payloadOf storedLength diagsTaken stationTook isImage hearsOf searchFrom controlDue turnRefusal replyRefusal sweepFrom sweptBy turnPayload turnAnswer replyAt
+unfolding step inRange inForce createdOf emptyUnit addRefusal addressRefusal lengthRefusal roomRefusal part inside putIn roomFor splice paramHead controlPayload diagnosisOf withDiagnosis actionOf byFlags heardOf payloadOf storedLength diagsTaken stationTook isImage hearsOf searchFrom controlDue turnRefusal replyRefusal sweepFrom sweptBy turnPayload turnAnswer replyAt
 rows-hold = refl

@@ -1,43 +1,45 @@
 -- A reply keeps a unit valid.
 -- The idea: an accepted reply has its request open at an occupied slot, and puts back a balance with the same ranges.
 use mathlib.Core.Path.{_≡_, refl, sym, _∙_, subst}
-use mathlib.Core.Bool.{true, false}
+use mathlib.Core.Bool.{true, false, _&&_}
 use mathlib.Core.Logic.{inl}
 use mathlib.Core.List.{List}
-use Prim.Native.Nat.{ℕ, _≤_}
+use Prim.Native.Nat.{ℕ, _+_, _≤_}
 use native.Mathlib.Omega.{arith}
-use lib.ListN.{length, getD, set, drop}
-use lib.Dec.{eqb, ltb}
-use borrow.Author.Tests.{eqb-true, ltb-true, lt-ltb}
-use Rattle.parts.specs.Parts.{roomFor}
-use Rattle.parts.proofs.Laws.{by-test, room-new}
+use lib.ListN.{length, getD, set}
+use lib.Dec.{eqb, ltb, leb}
+use borrow.Author.Tests.{eqb-true, ltb-true, lt-ltb, leb-true}
+use Rattle.parts.proofs.Laws.{by-test, and-left, and-right}
 use Rattle.fdl.specs.declared.telegram.Telegram.{Telegram}
-use Rattle.payloads.specs.Diagnosis.{taken, diagnosisOf, extended}
-use Rattle.station.specs.Record.{tookOf}
+use Rattle.payloads.specs.Diagnosis.{taken, flag, diagnosisOf}
+use Rattle.station.specs.Visit.{requestOf}
 use Rattle.peripheral.specs.declared.record.Peripheral.{Peripheral}
-use Rattle.peripheral.specs.Record.{blank}
-use Rattle.peripheral.specs.Reply.{storedLength, stationTook, isImage, withHeard, hearsOf}
+use Rattle.peripheral.specs.Record.{blank, stationIs}
+use Rattle.peripheral.specs.Response.{partFits, payloadPart, stationDiagnosed, fitsImage, answerTo, replyOf}
+use Rattle.peripheral.proofs.Laws.{answer-heard}
 use Rattle.peripheral_set.specs.Marks.{slots, nextAfter}
 use Rattle.cycle.specs.Seen.{indexOf}
 use Rattle.cycle.specs.State.{answered}
 use Rattle.cycle.specs.Refusal.{replyRefusal}
 use Rattle.cycle.proofs.Laws.{reply-open, reply-slot}
 use Rattle.master.specs.declared.unit.DpMaster.{DpMaster}
-use Rattle.master.specs.declared.reply.Answered.{Answered}
+use Rattle.master.specs.declared.receive.Answered.{Answered}
 use Rattle.master.specs.Unit.{stateIs, balancesAre}
-use Rattle.master.specs.Reply.{openBalance, replyAt, unitReplied, Received}
+use Rattle.master.specs.Receive.{openBalance, replyAt, unitReplied, Received}
 use Rattle.valid.specs.Valid.{Sound, Standing, Valid, occupied}
 use Rattle.valid.proofs.Stations.{sound-took, sound-steady, address-steady, heard-keeps}
 use Rattle.valid.proofs.Balances.{next-station, valid-set, open-there}
 
 -- what is stored fits its room
-stored-fits : (p : Peripheral) (payload diags : List ℕ) → p .station .«diag_len» ≤ p .ranges .«diag_room» → storedLength p payload diags ≤ p .ranges .«diag_room»
-unfolding storedLength
+stored-fits : (p : Peripheral) (payload : List ℕ) (diags : ℕ) → p .station .«diag_len» ≤ p .ranges .«diag_room» → payloadPart p payload diags .len ≤ p .ranges .«diag_room»
+unfolding partFits
 stored-fits p payload diags h =
-    by-test (extended payload)
-    (λ e.
-    by-test (roomFor (p .ranges .diag) (p .ranges .«diag_room») (drop 6 payload) diags)
-    (λ f. rw (e, f) (room-new (p .ranges .diag) (p .ranges .«diag_room») (drop 6 payload) diags f)) (λ f. rw (e, f) h))
+    let room = p .ranges .«diag_room» in
+    let a = flag 0x0008 (diagnosisOf payload .flags) in
+    let b = leb (length payload) (room + 6) in
+    let c = leb (p .ranges .diag + room) diags in
+    by-test (a && (b && c))
+    (λ e. let l : length payload ≤ room + 6 = leb-true (length payload) (room + 6) (and-left b c (and-right a (b && c) e)) in rw e (omega (arith, l)))
     (λ e. rw e h)
 
 -- the state after an accepted reply
@@ -53,19 +55,24 @@ taken-held payload = refl
 
 module _ (m : DpMaster) (t : Telegram) (payload inputs diags : List ℕ) (v : Valid m) where
   put-back : (k next : ℕ) → occupied m k
-      → Valid (stateIs (answered next (m .state)) (balancesAre (set (m .peripherals) k (withHeard (getD (m .peripherals) k blank) (hearsOf t (getD (m .peripherals) k blank) payload inputs diags) .peripheral)) m))
-  unfolding hearsOf stationTook tookOf
+      → Valid (stateIs (answered next (m .state)) (balancesAre (set (m .peripherals) k (replyOf t (getD (m .peripherals) k blank) payload (length inputs) (length diags) .peripheral)) m))
+  unfolding stationDiagnosed
   put-back k next o =
       let p = getD (m .peripherals) k blank in
       let limit = m .parameters .«max_retry_limit» in
       let room = p .ranges .«diag_room» in
       let took = taken t (length payload) in
-      let q = stationTook p payload diags in
-      let h = hearsOf t p payload inputs diags in
-      let same : h .station .address ≡ p .station .address = heard-keeps _ (address-steady (p .station .address)) q (p .station) refl refl t took (eqb (p .ranges .«input_len») 0) (isImage p payload inputs) in
-      valid-set m v k (withHeard p h .peripheral) (answered next (m .state))
+      let fits = fitsImage t p (length payload) (length inputs) in
+      let q = stationDiagnosed p payload (length diags) in
+      let h = answerTo (requestOf (p .station)) t p payload (length inputs) (length diags) in
+      let is = sym (answer-heard (requestOf (p .station)) t p payload (length inputs) (length diags)) in
+      let same : h .station .address ≡ p .station .address = subst (λ r. r .station .address ≡ p .station .address) is (heard-keeps _ (address-steady (p .station .address)) q (p .station) refl refl t took fits) in
+      let stored = payloadPart p payload (length diags) .len in
+      valid-set m v k (stationIs (h .station) p) (answered next (m .state))
       (next-station (m .parameters) (getD (m .occupied) k false) p (h .station) o (λ a. rw same a)
-      (λ g. heard-keeps (Sound limit room) (sound-steady limit room) q (p .station) (sound-took g (diagnosisOf payload) (storedLength p payload diags) (taken-held payload) (stored-fits p payload diags (g .stored))) g t took (eqb (p .ranges .«input_len») 0) (isImage p payload inputs)))
+      (λ g.
+      subst (λ r. Sound limit room (r .station)) is
+      (heard-keeps (Sound limit room) (sound-steady limit room) q (p .station) (sound-took g (diagnosisOf payload) stored (taken-held payload) (stored-fits p payload (length diags) (g .stored))) g t took fits)))
       (next-standing m next _ (v .standing))
 
   module _ (asked address : ℕ) (z : replyRefusal (m .parameters) (m .state) asked address t (length payload) (length inputs) (length diags) ≡ 0) where

@@ -15,17 +15,16 @@ use Rattle.payloads.specs.declared.request.Request.the-variants.{Diagnosis, Dat
 use Rattle.payloads.specs.Request.{kindNumber}
 use Rattle.payloads.specs.declared.diagnosis.DiagnosticsInfo.{DiagnosticsInfo}
 use Rattle.station.specs.declared.record.Station.{Station}
-use Rattle.station.specs.declared.reply.Heard.{Heard}
+use Rattle.station.specs.declared.heard.Heard.{Heard}
 use Rattle.station.specs.declared.state.PeripheralState.{PeripheralState}
 use Rattle.station.specs.declared.state.PeripheralState.the-variants.{Offline, WaitForParam, WaitForConfig, ValidateConfig, PreDataExchange, DataExchange}
 use Rattle.station.specs.declared.visit.Visited.{Visited}
 use Rattle.station.specs.declared.visit.Visited.the-variants.{Sends, Drops, Skips}
 use Rattle.station.specs.State.{numberOf, stateOf}
-use Rattle.station.specs.Record.{newStation, inState, counting, cycling, dueIs, oneMore, tookOf}
-use Rattle.station.specs.Visit.{wishIn, wishOf, visitedOf}
-use Rattle.station.specs.Reply.{heardOf}
-use Rattle.station.proofs.Visits.{falls, wish-falls}
-use Rattle.station.proofs.Rows.{ReplyRow, comes-online, stays-offline, param-confirmed, param-unconfirmed, config-confirmed, config-unconfirmed, param-error, config-error, param-wanted, not-ready, is-configured, unvalidated, diagnosed, undiagnosed, diagnosed-late, undiagnosed-late, data-stored, data-unused, data-denied, diagnosis-row, parameters-row, configuration-row, data-row}
+use Rattle.station.specs.Record.{newStation, inState, counting, cycling, dueIs, oneMore, withDiagnosis}
+use Rattle.station.specs.Visit.{requestIn, requestOf, canSend, actionOf, visitedOf}
+use Rattle.station.proofs.Visits.{drops, action-drops}
+use Rattle.station.proofs.Rows.{ReplyRow, comes-online, stays-offline, param-confirmed, param-unconfirmed, config-confirmed, config-unconfirmed, param-error, config-error, param-wanted, not-ready, is-configured, unvalidated, diagnosed, undiagnosed, diagnosed-late, undiagnosed-late, data-stored, data-unused, data-denied, heardFor, diagnosis-row, parameters-row, configuration-row, data-row}
 use Rattle.valid.specs.Valid.{Sound, fits}
 
 -- ---- the numbers
@@ -69,8 +68,8 @@ module _ {limit room : ℕ} {s : Station} (g : Sound limit room s) where
   pub sound-due : (b : Bool) → Sound limit room (dueIs b s)
   sound-due b = record { state = g .state; bitLow = g .bitLow; bitHigh = g .bitHigh; count = g .count; stored = g .stored; unheld = g .unheld }
 
-  pub sound-took : (d : DiagnosticsInfo) (n : ℕ) → d .held ≡ true → n ≤ room → Sound limit room (tookOf d n s)
-  unfolding tookOf
+  pub sound-took : (d : DiagnosticsInfo) (n : ℕ) → d .held ≡ true → n ≤ room → Sound limit room (withDiagnosis d n s)
+  unfolding withDiagnosis
   sound-took d n e h =
       let b = bit-cycles (s .fcb) (g .bitLow) (g .bitHigh) in
       record { state = g .state; bitLow = b .0; bitHigh = b .1; count = g .count; stored = h; unheld = λ f. absurd (false≢true (sym f ∙ e)) }
@@ -85,13 +84,13 @@ module _ {limit room : ℕ} {s : Station} (g : Sound limit room s) where
   one-more-fits : s .«retry_count» ≤ limit → oneMore (s .«retry_count») ≤ limit + 1
   one-more-fits h = by-test (ltb (s .«retry_count») 255) (λ e. rw e (omega arith)) (λ e. rw e (omega (arith, ltb-false (s .«retry_count») 255 e)))
 
-  sound-visited : (w : Visited) → (falls w ≡ false → s .«retry_count» ≤ limit) → Sound limit room (visitedOf w s)
+  sound-visited : (w : Visited) → (drops w ≡ false → s .«retry_count» ≤ limit) → Sound limit room (visitedOf w s)
   sound-visited (Sends k) h = sound-count g (oneMore (s .«retry_count»)) (one-more-fits (h refl))
   sound-visited Drops h = sound-at (sound-zero g) Offline
   sound-visited Skips h = sound-zero g
 
-  pub sound-visit : (user config : Bool) → Sound limit room (visitedOf (wishOf limit user config s) s)
-  sound-visit user config = sound-visited (wishOf limit user config s) (λ f. ltb-false limit (s .«retry_count») (sym (wish-falls user config s limit) ∙ f))
+  pub sound-visit : (user config : Bool) → Sound limit room (visitedOf (actionOf limit user config s) s)
+  sound-visit user config = sound-visited (actionOf limit user config s) (λ f. ltb-false limit (s .«retry_count») (sym (action-drops user config s limit) ∙ f))
 
 -- ---- the request of a visit
 
@@ -101,18 +100,21 @@ sendsFit x due (Sends k) = fits x due (kindNumber k)
 sendsFit x due Drops = true
 sendsFit x due Skips = true
 
-module _ (user config : Bool) (s : Station) where
-  wish-fits-in : (x : PeripheralState) → T (sendsFit x (s .«diag_needed») (wishIn x user config s))
-  wish-fits-in Offline = by-test (eqb (s .«retry_count») 0) (λ e. rw e tt) (λ e. rw e tt)
-  wish-fits-in WaitForParam = by-test user (λ e. rw e tt) (λ e. rw e tt)
-  wish-fits-in WaitForConfig = by-test config (λ e. rw e tt) (λ e. rw e tt)
-  wish-fits-in ValidateConfig = tt
-  wish-fits-in PreDataExchange = by-test (s .«diag_needed») (λ e. rw e tt) (λ e. rw e tt)
-  wish-fits-in DataExchange = by-test (s .«diag_needed») (λ e. rw e tt) (λ e. rw e tt)
+request-fits : (x : PeripheralState) (due : Bool) → T (fits x due (kindNumber (requestIn x due)))
+request-fits Offline due = tt
+request-fits WaitForParam due = tt
+request-fits WaitForConfig due = tt
+request-fits ValidateConfig due = tt
+request-fits PreDataExchange true = tt
+request-fits PreDataExchange false = tt
+request-fits DataExchange true = tt
+request-fits DataExchange false = tt
 
-  pub wish-fits : (limit : ℕ) → T (sendsFit (stateOf (s .state)) (s .«diag_needed») (wishOf limit user config s))
-  unfolding wishOf
-  wish-fits limit = by-test (ltb limit (s .«retry_count»)) (λ e. rw e tt) (λ e. rw e (wish-fits-in (stateOf (s .state))))
+pub action-fits : (user config : Bool) (s : Station) (limit : ℕ) → T (sendsFit (stateOf (s .state)) (s .«diag_needed») (actionOf limit user config s))
+unfolding actionOf
+action-fits user config s limit =
+    by-test (ltb limit (s .«retry_count»)) (λ e. rw e tt)
+    (λ e. by-test (canSend (stateOf (s .state)) (s .«retry_count») user config) (λ f. rw (e, f) (request-fits (stateOf (s .state)) (s .«diag_needed»))) (λ f. rw (e, f) tt))
 
 -- it still fits when a wish comes
 module _ (k : ℕ) (due : Bool) where
@@ -190,15 +192,15 @@ module _ (P : Station → Type 0) (c : Steady P) (q s : Station) (gq : P q) (g :
   row-keeps (data-unused j x d e f) = c .due-ok (j || s .«diag_needed») (counting 0 (cycling s)) counted
   row-keeps (data-denied x d e f) = c .at-ok ValidateConfig (counting 0 (cycling s)) counted
 
-  module _ (t : Telegram) (took empty fits : Bool) where
+  module _ (t : Telegram) (took fits : Bool) where
     -- whatever the state, some row is the reply's
-    keeps-in : (x : PeripheralState) → stateOf (s .state) ≡ x → P (heardOf t took q empty fits s .station)
-    keeps-in Offline x = row-keeps (diagnosis-row s q t took empty fits (rw x refl))
-    keeps-in WaitForParam x = row-keeps (parameters-row s q t took empty fits x)
-    keeps-in WaitForConfig x = row-keeps (configuration-row s q t took empty fits x)
-    keeps-in ValidateConfig x = row-keeps (diagnosis-row s q t took empty fits (rw x refl))
-    keeps-in PreDataExchange x = row-keeps (data-row s q t took empty fits (rw x refl))
-    keeps-in DataExchange x = row-keeps (data-row s q t took empty fits (rw x refl))
+    keeps-in : (x : PeripheralState) → stateOf (s .state) ≡ x → P (heardFor (requestOf s) t took q fits s .station)
+    keeps-in Offline x = row-keeps (diagnosis-row s q t took fits (rw x refl))
+    keeps-in WaitForParam x = row-keeps (parameters-row s q t took fits x)
+    keeps-in WaitForConfig x = row-keeps (configuration-row s q t took fits x)
+    keeps-in ValidateConfig x = row-keeps (diagnosis-row s q t took fits (rw x refl))
+    keeps-in PreDataExchange x = row-keeps (data-row s q t took fits (rw x refl))
+    keeps-in DataExchange x = row-keeps (data-row s q t took fits (rw x refl))
 
-    pub heard-keeps : P (heardOf t took q empty fits s .station)
+    pub heard-keeps : P (heardFor (requestOf s) t took q fits s .station)
     heard-keeps = keeps-in (stateOf (s .state)) refl

@@ -21,7 +21,7 @@ use Rattle.station.specs.Visit.{visitedOf}
 use Rattle.station.proofs.Visits.{visit-keeps}
 use Rattle.peripheral.specs.declared.record.Peripheral.{Peripheral}
 use Rattle.peripheral.specs.Record.{blank, stationIs}
-use Rattle.peripheral.specs.Visit.{wishesOf, visitedBy}
+use Rattle.peripheral.specs.Visit.{visitAction, visitedBy}
 use Rattle.peripheral_set.specs.Marks.{slots}
 use Rattle.cycle.specs.declared.seen.Seen.{Seen}
 use Rattle.cycle.specs.declared.seen.Sent.{Sent}
@@ -38,14 +38,14 @@ use Rattle.master.specs.Unit.{stateIs, balancesAre}
 use Rattle.master.specs.Turn.{Swept, sweepFrom, stepAt, sweptBy, unitTurned, Turned}
 use Rattle.master.proofs.Sweep.{sweep-skip, sweep-visit, sweep-stopped, sweep-none}
 use Rattle.valid.specs.Valid.{Fits, Standing, Valid}
-use Rattle.valid.proofs.Stations.{sound-visit, sendsFit, wish-fits}
+use Rattle.valid.proofs.Stations.{sound-visit, sendsFit, action-fits}
 use Rattle.valid.proofs.Balances.{Next, next-same, next-next, next-station, GoneOn, on-set, valid-on, marked-in, marked-below}
 
 -- ---- the visits
 
 visited-next : (u : Parameters) (there : Bool) (p : Peripheral) → there ≡ true → Next u there p (visitedBy (u .«max_retry_limit») p)
 visited-next u there p o =
-    let w = wishesOf (u .«max_retry_limit») p in
+    let w = visitAction (u .«max_retry_limit») p in
     let same : visitedOf w (p .station) .address ≡ p .station .address = ap (λ (s : Station). s .address) (visit-keeps w (p .station)) in
     next-station u there p (visitedOf w (p .station)) o (λ a. rw same a) (λ g. sound-visit g (p .options .«has_user_parameters») (p .options .«has_config»))
 
@@ -81,14 +81,14 @@ module _ (u : Parameters) (marks : List Bool) where
   sweep-went (suc n) i seen ps l h =
       let limit = u .«max_retry_limit» in
       let p = getD ps i blank in
-      let w = wishesOf limit p in
+      let w = visitAction limit p in
       let q = visitedBy limit p in
       by-test (idle (seen .sent))
       (λ f.
       by-test (getD marks i false)
       (λ e.
       let r = sweep-went n (i + 1) (seenBy i w seen) (set ps i q) (simp length-set l)
-      (visit-sent marks w i seen ps e (omega (arith, l, marked-in marks i e)) f (wish-fits (p .options .«has_user_parameters») (p .options .«has_config») (p .station) limit)) in
+      (visit-sent marks w i seen ps e (omega (arith, l, marked-in marks i e)) f (action-fits (p .options .«has_user_parameters») (p .options .«has_config») (p .station) limit)) in
       rw (sweep-visit limit marks n i seen ps e f)
       (record {
         on = λ j. next-next u (getD marks j false) _ _ _ (on-set u marks ps i q (visited-next u (getD marks i false) p e) j) (r .on j);
