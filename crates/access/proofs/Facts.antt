@@ -1,6 +1,6 @@
 -- A handle that is refused or not, where a view lies, and an output write.
 -- The idea: the handle's number is 0 exactly where its slot is occupied, and a view's length is its range's where that lies in the pool.
-use mathlib.Core.Path.{_≡_, refl, sym, ap, _∙_}
+use mathlib.Core.Path.{_≡_, refl, sym, _∙_}
 use mathlib.Core.Bool.{Bool, true, false, not, cond}
 use mathlib.Core.List.{List, [], _∷_}
 use Prim.Native.Nat.{ℕ, _+_}

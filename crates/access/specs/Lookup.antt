@@ -2,7 +2,7 @@
 -- From 01, "Refusal numbers" (2, 4, 11, empty views), "The unit and its sizes" (the last diagnosis), the new form of `ManagedSlice` (the part itself, empty when refused) and "iter".
 use mathlib.Core.Path.{_≡_}
 use Prim.Native.Nat.{ℕ}
-use mathlib.Core.Bool.{Bool, true, false, cond}
+use mathlib.Core.Bool.{Bool, false, cond}
 use mathlib.Core.List.{List, [], _∷_, _++_}
 use lib.ListN.{length, getD}
 use lib.Dec.{eqb, ltb}

@@ -2,7 +2,7 @@
 -- From 01, "One turn", with what a refusal answers from "Refusal numbers".
 use mathlib.Core.Path.{_≡_}
 use Prim.Native.Nat.{ℕ}
-use mathlib.Core.Bool.{Bool, true, false, cond}
+use mathlib.Core.Bool.{Bool, false, cond}
 use mathlib.Core.List.{List, []}
 use lib.ListN.{length}
 use lib.Dec.{eqb}
@@ -50,7 +50,7 @@ payloadSent Control sent p u clear setup outputs = controlPayload clear
 payloadSent Back sent p u clear setup outputs = []
 payloadSent Visits sent p u clear setup outputs = visitsPayload sent p u clear setup outputs
 
--- how long the payload is that stands in the buffer, and what was sent
+-- how long the payload is that stands in the buffer, and what was sent; a payload that does not fit is not written (DECISIONS 25)
 abbrev pub filledOf : Step → Sent → Peripheral → Parameters → List ℕ → List ℕ → Filled
 filledOf step sent p u payload buf = record { len = cond (inside 0 (length payload) buf) (length payload) 0; transmission = transmissionOf step sent p u }
 

@@ -1,7 +1,7 @@
 -- Which call is refused, and with which number: the rows of each call, of which the first that applies is the answer.
 -- From 01, "Refusal numbers".
 use Prim.Native.Nat.{ℕ}
-use mathlib.Core.List.{List, [], _∷_, _++_}
+use mathlib.Core.List.{List, [], _∷_}
 use Rattle.refusals.specs.Table.{Row, maxUser, maxConfig, maxImage, maxRoom, lentRow, bufferRow, turnRow, fullRow, addressRow, lengthRow, askedRow, usableRow, firstOf}
 use Rattle.fdl.specs.Status.{usableReply}
 use Rattle.fdl.specs.declared.parameters.Parameters.{Parameters}

@@ -2,7 +2,7 @@
 ghost use mathlib.Core.Path.{_≡_};
 ghost use Prim.Native.Nat.{_<_};
 ghost use Rattle.peripheral_set.specs.Marks.{slots};
-ghost use Rattle.cycle.specs.Seen.{bitAt, nothingSeen, seenBy, idle, nextIn, indexOf, sentIndex};
+ghost use Rattle.cycle.specs.Seen.{bitAt, nothingSeen, seenBy, nextIn, indexOf, sentIndex};
 use payloads::request::Request;
 use peripheral_set::SLOTS;
 use station::visit::Visited;

@@ -1,7 +1,7 @@
 -- The parameters of a unit: their ranges, what a record holds of them, and the lowest values.
 -- From 01, "The unit and its sizes" (ranges) and "Refusal numbers" (No. 1, and what a refused creation returns).
 use Prim.Native.Nat.{ℕ}
-use mathlib.Core.Bool.{Bool, false, cond}
+use mathlib.Core.Bool.{false, cond}
 use mathlib.Core.List.{List, [], _∷_}
 use Rattle.refusals.specs.Table.{Row, maxAddress, maxRetries, maxSlotTime, maxPool, parameterRow, firstOf}
 use Rattle.fdl.specs.declared.parameters.Parameters.{Parameters}

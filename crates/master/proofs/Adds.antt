@@ -1,9 +1,9 @@
 -- An add put together from its pieces, and one that is refused.
 -- The idea: every part of the promise is the same test on the refusal.
-use mathlib.Core.Path.{_≡_, refl, sym, ap, _∙_}
+use mathlib.Core.Path.{_≡_, refl, sym, _∙_}
 use mathlib.Core.List.{List}
 use Prim.Native.Nat.{ℕ}
-use borrow.Author.Tests.{eq-eqb, ne-eqb}
+use borrow.Author.Tests.{ne-eqb}
 use Rattle.refusals.specs.Table.{orElse}
 use Rattle.peripheral_set.specs.Marks.{noHandle, firstEmpty}
 use Rattle.cycle.specs.declared.refusal.Lengths.{Lengths}

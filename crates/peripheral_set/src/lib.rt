@@ -2,7 +2,6 @@
 // No code above looks a mark up itself, so that another way to find a slot changes nothing there.
 ghost use mathlib.Core.Path.{_≡_};
 ghost use mathlib.Core.Bool.{true, false};
-ghost use mathlib.Core.List.{List};
 ghost use lib.ListN.{length, getD};
 ghost use Prim.Native.Nat.{_-_};
 ghost use Rattle.peripheral_set.specs.Marks.{slots, sameMark, searchFrom, noHandle, firstEmpty, atOrAfter, nextAfter, isOccupied, listed, handleRefusal};

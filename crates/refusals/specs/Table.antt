@@ -1,7 +1,7 @@
 -- The table of refusals: its numbers and limits by name, a definition for each row, and the number that a list of rows answers.
 -- From 01, "Refusal numbers", with the limits of "The unit and its sizes".
 use Prim.Native.Nat.{ℕ, _+_}
-use mathlib.Core.Bool.{Bool, true, false, not, _&&_, _||_, cond}
+use mathlib.Core.Bool.{Bool, not, _||_, cond}
 use mathlib.Core.List.{List, [], _∷_}
 use lib.Dec.{ltb, leb, eqb}
 

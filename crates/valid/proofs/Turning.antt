@@ -8,8 +8,8 @@ use Prim.Native.Nat.{ℕ, zero, suc, _+_, _-_, _≤_, _<_}
 use native.Mathlib.Omega.{arith}
 use lib.ListN.{length, getD, set, length-set}
 use lib.Seq.{getD-set-same}
-use lib.Dec.{T, eqb, leb}
-use borrow.Author.Tests.{eqb-true, leb-true}
+use lib.Dec.{T, eqb}
+use borrow.Author.Tests.{eqb-true}
 use Rattle.parts.proofs.Laws.{by-test}
 use Rattle.fdl.specs.declared.parameters.Parameters.{Parameters}
 use Rattle.payloads.specs.Request.{kindNumber}

@@ -1,5 +1,5 @@
 -- `Parameters::refusal` meets its contract: its rows in turn.
-use mathlib.Core.Path.{refl, _∙_}
+use mathlib.Core.Path.{refl}
 use borrow.Author.Needs.{needs}
 use Rattle.refusals.proofs.Laws.{in-turn}
 use Rattle.fdl.specs.Params.{creationRows, creationRefusal}
