@@ -7,8 +7,6 @@ use Rattle.cycle.proofs.refusal.turn_refusal.Kinds as K·refusal-turn-refusal
 use Rattle.cycle.proofs.refusal.turn_refusal.Reads as R·refusal-turn-refusal
 use Rattle.cycle.proofs.refusal.reply_refusal.Kinds as K·refusal-reply-refusal
 use Rattle.cycle.proofs.refusal.reply_refusal.Reads as R·refusal-reply-refusal
-use Rattle.cycle.proofs.refusal.address_refusal.Kinds as K·refusal-address-refusal
-use Rattle.cycle.proofs.refusal.address_refusal.Reads as R·refusal-address-refusal
 use Rattle.cycle.proofs.refusal.add_refusal.Kinds as K·refusal-add-refusal
 use Rattle.cycle.proofs.refusal.add_refusal.Reads as R·refusal-add-refusal
 use Rattle.cycle.proofs.seen.bit.Kinds as K·seen-bit
@@ -31,6 +29,8 @@ use Rattle.cycle.proofs.state.DpMasterState.new.Kinds as K·state-DpMasterState
 use Rattle.cycle.proofs.state.DpMasterState.new.Reads as R·state-DpMasterState-new
 use Rattle.cycle.proofs.state.DpMasterState.enter.Kinds as K·state-DpMasterState-enter
 use Rattle.cycle.proofs.state.DpMasterState.enter.Reads as R·state-DpMasterState-enter
+use Rattle.cycle.proofs.state.DpMasterState.is_open.Kinds as K·state-DpMasterState-is-open
+use Rattle.cycle.proofs.state.DpMasterState.is_open.Reads as R·state-DpMasterState-is-open
 use Rattle.cycle.proofs.state.DpMasterState.is_clear.Kinds as K·state-DpMasterState-is-clear
 use Rattle.cycle.proofs.state.DpMasterState.is_clear.Reads as R·state-DpMasterState-is-clear
 use Rattle.cycle.proofs.state.DpMasterState.control_due.Kinds as K·state-DpMasterState-control-due
@@ -51,9 +51,6 @@ refusal-turn-refusal κs a z y e f p q = same p q
 
 pub refusal-reply-refusal : Coincide 0 K·refusal-reply-refusal.ps K·refusal-reply-refusal.r R·refusal-reply-refusal.Learnt (λ κs z y e f. z ≡ y)
 refusal-reply-refusal κs a z y e f p q = same p q
-
-pub refusal-address-refusal : Coincide 0 K·refusal-address-refusal.ps K·refusal-address-refusal.r R·refusal-address-refusal.Learnt (λ κs z y e f. z ≡ y)
-refusal-address-refusal κs a z y e f p q = same p q
 
 pub refusal-add-refusal : Coincide 0 K·refusal-add-refusal.ps K·refusal-add-refusal.r R·refusal-add-refusal.Learnt (λ κs z y e f. z ≡ y)
 refusal-add-refusal κs a z y e f p q = same p q
@@ -87,6 +84,9 @@ state-DpMasterState-new κs a z y e f p q = same p q
 
 pub state-DpMasterState-enter : Coincide 0 K·state-DpMasterState-enter.ps K·state-DpMasterState-enter.r R·state-DpMasterState-enter.Learnt (λ κs z y e f. z ≡ y)
 state-DpMasterState-enter κs a z y e f p q = same p q
+
+pub state-DpMasterState-is-open : Coincide 0 K·state-DpMasterState-is-open.ps K·state-DpMasterState-is-open.r R·state-DpMasterState-is-open.Learnt (λ κs z y e f. z ≡ y)
+state-DpMasterState-is-open κs a z y e f p q = same p q
 
 pub state-DpMasterState-is-clear : Coincide 0 K·state-DpMasterState-is-clear.ps K·state-DpMasterState-is-clear.r R·state-DpMasterState-is-clear.Learnt (λ κs z y e f. z ≡ y)
 state-DpMasterState-is-clear κs a z y e f p q = same p q

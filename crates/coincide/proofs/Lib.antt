@@ -1,5 +1,6 @@
 pub mod Law
 pub mod Parts
+pub mod Refusals
 pub mod Fdl
 pub mod Payloads
 pub mod Station

@@ -1,8 +1,9 @@
 -- Any two results that a contract of `master` allows coincide: a statement for each public function.
 -- The idea: a contract is an equation for the answer and for each lent buffer, so two of them have the same right-hand side.
-use mathlib.Core.Path.{_≡_, refl}
+use mathlib.Core.Path.{_≡_, refl, ap}
 use denote.Ref.{now}
 use Rattle.coincide.specs.Coincide.{Coincide}
+use Rattle.master.specs.Pools.{Pools}
 use Rattle.coincide.proofs.Law.{same}
 use Rattle.master.proofs.unit.DpMaster.add.Kinds as K·unit-DpMaster-add
 use Rattle.master.proofs.unit.DpMaster.add.Reads as R·unit-DpMaster-add
@@ -28,7 +29,7 @@ use Rattle.master.proofs.unit.DpMaster.enter_operate.Kinds as K·unit-DpMaster-
 use Rattle.master.proofs.unit.DpMaster.enter_operate.Reads as R·unit-DpMaster-enter-operate
 
 pub unit-DpMaster-add : Coincide 6 K·unit-DpMaster-add.ps K·unit-DpMaster-add.r R·unit-DpMaster-add.Learnt (λ κs z y e f. (z ≡ y) × (now (e .1 .1 .1 .1 .0) ≡ now (f .1 .1 .1 .1 .0)) × (now (e .1 .1 .1 .1 .1 .0) ≡ now (f .1 .1 .1 .1 .1 .0)) × (now (e .1 .1 .1 .1 .1 .1 .0) ≡ now (f .1 .1 .1 .1 .1 .1 .0)) × (now (e .1 .1 .1 .1 .1 .1 .1 .0) ≡ now (f .1 .1 .1 .1 .1 .1 .1 .0)))
-unit-DpMaster-add κs a z y e f p q = (rw (same (p .refusal) (q .refusal), same (p .handle) (q .handle), same (p .after) (q .after)) refl, same (p .setupPool) (q .setupPool), same (p .inputPool) (q .inputPool), same (p .outputPool) (q .outputPool), same (p .diagPool) (q .diagPool))
+unit-DpMaster-add κs a z y e f p q = (rw (same (p .refusal) (q .refusal), same (p .handle) (q .handle), same (p .after) (q .after)) refl, ap (λ (x : Pools). x .setup) (same (p .written) (q .written)), ap (λ (x : Pools). x .inputs) (same (p .written) (q .written)), ap (λ (x : Pools). x .outputs) (same (p .written) (q .written)), ap (λ (x : Pools). x .diags) (same (p .written) (q .written)))
 
 pub unit-DpMaster-reset-address : Coincide 0 K·unit-DpMaster-reset-address.ps K·unit-DpMaster-reset-address.r R·unit-DpMaster-reset-address.Learnt (λ κs z y e f. z ≡ y)
 unit-DpMaster-reset-address κs a z y e f p q = same p q

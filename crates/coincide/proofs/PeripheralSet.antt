@@ -15,6 +15,8 @@ use Rattle.peripheral_set.proofs.count.Kinds as K·count
 use Rattle.peripheral_set.proofs.count.Reads as R·count
 use Rattle.peripheral_set.proofs.nth.Kinds as K·nth
 use Rattle.peripheral_set.proofs.nth.Reads as R·nth
+use Rattle.peripheral_set.proofs.PeripheralHandle.none.Kinds as K·PeripheralHandle-none
+use Rattle.peripheral_set.proofs.PeripheralHandle.none.Reads as R·PeripheralHandle-none
 use Rattle.peripheral_set.proofs.PeripheralHandle.refusal.Kinds as K·PeripheralHandle-refusal
 use Rattle.peripheral_set.proofs.PeripheralHandle.refusal.Reads as R·PeripheralHandle-refusal
 
@@ -38,3 +40,6 @@ nth κs a z y e f p q = same p q
 
 pub PeripheralHandle-refusal : Coincide 0 K·PeripheralHandle-refusal.ps K·PeripheralHandle-refusal.r R·PeripheralHandle-refusal.Learnt (λ κs z y e f. z ≡ y)
 PeripheralHandle-refusal κs a z y e f p q = same p q
+
+pub PeripheralHandle-none : Coincide 0 K·PeripheralHandle-none.ps K·PeripheralHandle-none.r R·PeripheralHandle-none.Learnt (λ κs z y e f. z ≡ y)
+PeripheralHandle-none κs a z y e f p q = same p q

@@ -8,6 +8,7 @@ use denote.Ref.{now}
 use Rattle.parts.specs.Parts.{SamePart}
 use Rattle.parts.proofs.Laws.{itself-same}
 use Rattle.coincide.specs.Coincide.{Coincide}
+use Rattle.master.specs.Pools.{Pools}
 use Rattle.coincide.proofs.Law.{same}
 use Rattle.script_driver.proofs.run.Run.empty.Kinds as K·run-Run-empty
 use Rattle.script_driver.proofs.run.Run.empty.Reads as R·run-Run-empty
@@ -116,7 +117,7 @@ pub calls-clear : Coincide 6 K·calls-clear.ps K·calls-clear.r R·calls-clear.L
 calls-clear κs a z y e f p q = (same (p .0 .setupPool) (q .0 .setupPool), same (p .0 .inputPool) (q .0 .inputPool), same (p .0 .outputPool) (q .0 .outputPool), same (p .0 .diagPool) (q .0 .diagPool), same (p .1 .0) (q .1 .0), same (p .1 .1) (q .1 .1))
 
 pub calls-add : Coincide 6 K·calls-add.ps K·calls-add.r R·calls-add.Learnt (λ κs z y e f. (z ≡ y) × (now (e .1 .1 .1 .1 .0) ≡ now (f .1 .1 .1 .1 .0)) × (now (e .1 .1 .1 .1 .1 .0) ≡ now (f .1 .1 .1 .1 .1 .0)) × (now (e .1 .1 .1 .1 .1 .1 .0) ≡ now (f .1 .1 .1 .1 .1 .1 .0)) × (now (e .1 .1 .1 .1 .1 .1 .1 .0) ≡ now (f .1 .1 .1 .1 .1 .1 .1 .0)))
-calls-add κs a z y e f p q = (rw (same (p .call .refusal) (q .call .refusal), same (p .call .handle) (q .call .handle), same (p .call .after) (q .call .after)) refl, whole (a .0 .lent .setup) (same (p .call .setupPool) (q .call .setupPool)) (same (p .setupPool) (q .setupPool)), whole (a .0 .lent .inputs) (same (p .call .inputPool) (q .call .inputPool)) (same (p .inputPool) (q .inputPool)), whole (a .0 .lent .outputs) (same (p .call .outputPool) (q .call .outputPool)) (same (p .outputPool) (q .outputPool)), whole (a .0 .lent .diags) (same (p .call .diagPool) (q .call .diagPool)) (same (p .diagPool) (q .diagPool)))
+calls-add κs a z y e f p q = (rw (same (p .call .refusal) (q .call .refusal), same (p .call .handle) (q .call .handle), same (p .call .after) (q .call .after)) refl, whole (a .0 .lent .setup) (ap (λ (x : Pools). x .setup) (same (p .call .written) (q .call .written))) (same (p .setupPool) (q .setupPool)), whole (a .0 .lent .inputs) (ap (λ (x : Pools). x .inputs) (same (p .call .written) (q .call .written))) (same (p .inputPool) (q .inputPool)), whole (a .0 .lent .outputs) (ap (λ (x : Pools). x .outputs) (same (p .call .written) (q .call .written))) (same (p .outputPool) (q .outputPool)), whole (a .0 .lent .diags) (ap (λ (x : Pools). x .diags) (same (p .call .written) (q .call .written))) (same (p .diagPool) (q .diagPool)))
 
 pub calls-turn : Coincide 3 K·calls-turn.ps K·calls-turn.r R·calls-turn.Learnt (λ κs z y e f. (z ≡ y) × (now (e .1 .1 .1 .1 .1 .0) ≡ now (f .1 .1 .1 .1 .1 .0)))
 calls-turn κs a z y e f p q = (rw (same (p .call .after) (q .call .after), same (p .call .answer) (q .call .answer)) refl, whole (a .0 .lent .payload) (same (p .call .bytes) (q .call .bytes)) (same (p .payloadArray) (q .payloadArray)))

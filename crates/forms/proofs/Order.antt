@@ -10,7 +10,7 @@ use native.Mathlib.Nat.{not-suc-le-zero, le-of-suc-le-suc}
 use native.Mathlib.Omega.{arith}
 use lib.Dec.{ltb}
 use lib.ListN.{length, getD, take, drop, List·getD-map}
-use borrow.Author.Tests.{lt-ltb, ltb-true, lt-leb, le-leb}
+use borrow.Author.Tests.{lt-ltb, ltb-true, lt-leb, le-leb, le-ltb}
 use Rattle.parts.proofs.Laws.{and-left, and-right}
 use Rattle.peripheral_set.specs.declared.Entry.{Entry}
 use Rattle.peripheral_set.specs.Marks.{slots, isOccupied, listedFrom, listed}
@@ -116,9 +116,9 @@ module _ (m : DpMaster) (before : List Entry) where
 
   -- a list that is too short: 2, no entry, nothing touched
   pub list-refused : length before < slots → (listedIn m (length before) ≡ (record { refusal = 2; count = 0 })) × (left ≡ before)
-  list-refused l = rw (lt-leb slots (length before) l) (refl, refl)
+  list-refused l = rw (lt-leb slots (length before) l, lt-ltb (length before) slots l) (refl, refl)
 
   -- else all entries stand in front, and the rest is as it was
   pub list-filled : slots ≤ length before → (listedIn m (length before) ≡ (record { refusal = 0; count = length (entries m) }))
       × (take (length (entries m)) left ≡ entries m) × (drop (length (entries m)) left ≡ drop (length (entries m)) before)
-  list-filled l = let f = front (entries m) (drop (length (entries m)) before) in rw (le-leb slots (length before) l) (refl, f .0, f .1)
+  list-filled l = let f = front (entries m) (drop (length (entries m)) before) in rw (le-leb slots (length before) l, le-ltb (length before) slots l) (refl, f .0, f .1)

@@ -3,12 +3,12 @@
 use mathlib.Core.Path.{_≡_}
 use mathlib.Core.Bool.{cond}
 use Prim.Native.Nat.{ℕ}
-use mathlib.Core.List.{List, [], _++_, map}
+use mathlib.Core.List.{List, [], _∷_, _++_, map}
 use lib.ListN.{length, drop}
 use lib.Dec.{leb}
+use Rattle.refusals.specs.Table.{listRow, firstOf}
 use Rattle.peripheral_set.specs.declared.Entry.{Entry}
 use Rattle.peripheral_set.specs.Marks.{slots, listed}
-use Rattle.cycle.specs.Refusal.{unless}
 use Rattle.master.specs.declared.unit.DpMaster.{DpMaster}
 use Rattle.access.specs.Lookup.{entryAt}
 use Rattle.forms.specs.declared.listing.Listed.{Listed}
@@ -19,7 +19,7 @@ entries m = map (entryAt m) (listed (m .occupied))
 
 -- a list under 32 entries is refused
 abbrev pub listRefusal : ℕ → ℕ
-listRefusal room = unless (leb slots room) 2 0
+listRefusal room = firstOf (listRow room ∷ [])
 
 -- what is written into a list of so many entries: all of them, or nothing where it is refused
 abbrev pub shown : DpMaster → ℕ → List Entry

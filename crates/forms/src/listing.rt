@@ -17,7 +17,7 @@ fn listed_in(m: DpMaster, room: usize) -> Listed
 {
     if room < SLOTS {
         return Listed {
-            refusal: 2,
+            refusal: refusals::BAD_LENT,
             count: 0,
         };
     }

@@ -14,6 +14,7 @@ use Rattle.master.specs.declared.add.Addition.{Addition}
 use Rattle.master.specs.declared.add.Added.{Added}
 use Rattle.master.specs.declared.turn.Turn.{Turn}
 use Rattle.master.specs.declared.receive.Answered.{Answered}
+use Rattle.master.specs.Pools.{poolsOf}
 use Rattle.master.specs.Add.{Adding}
 use Rattle.master.specs.Turn.{Turned}
 use Rattle.master.specs.Receive.{Received}
@@ -41,8 +42,8 @@ Kept n pool out = behind n out ≡ behind n pool
 -- A: s, i, q, d
 pub record LentAdd (run : Run) (a : Addition) (user config setup inputs outputs diags outSetup outInputs outOutputs outDiags : List ℕ) (r : Added) : Type 0 where
   pub call : Adding (run .unit) a user config
-      (lend (run .lent .setup) setup) (lend (run .lent .inputs) inputs) (lend (run .lent .outputs) outputs) (lend (run .lent .diags) diags)
-      (lend (run .lent .setup) outSetup) (lend (run .lent .inputs) outInputs) (lend (run .lent .outputs) outOutputs) (lend (run .lent .diags) outDiags) r
+      (poolsOf (lend (run .lent .setup) setup) (lend (run .lent .inputs) inputs) (lend (run .lent .outputs) outputs) (lend (run .lent .diags) diags))
+      (poolsOf (lend (run .lent .setup) outSetup) (lend (run .lent .inputs) outInputs) (lend (run .lent .outputs) outOutputs) (lend (run .lent .diags) outDiags)) r
   pub setupPool : Kept (run .lent .setup) setup outSetup
   pub inputPool : Kept (run .lent .inputs) inputs outInputs
   pub outputPool : Kept (run .lent .outputs) outputs outOutputs

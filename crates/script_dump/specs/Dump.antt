@@ -9,7 +9,7 @@ use Rattle.station.specs.Record.{lastDiagnosis, storedPart}
 use Rattle.peripheral.specs.declared.record.Peripheral.{Peripheral}
 use Rattle.peripheral.specs.Record.{blank}
 use Rattle.peripheral_set.specs.Marks.{slots, listed}
-use Rattle.cycle.specs.declared.refusal.Used.{Used}
+use Rattle.master.specs.declared.unit.Used.{Used}
 use Rattle.cycle.specs.declared.state.DpMasterState.{DpMasterState}
 use Rattle.master.specs.declared.unit.DpMaster.{DpMaster}
 use Rattle.script_dump.specs.declared.Sums.{Sums}

@@ -16,6 +16,7 @@ use Rattle.master.specs.declared.unit.DpMaster.{DpMaster}
 use Rattle.master.specs.declared.unit.Done.{Done}
 use Rattle.master.specs.declared.add.Addition.{Addition}
 use Rattle.master.specs.Unit.{createdOf, stateIs}
+use Rattle.master.specs.Pools.{poolsOf}
 use Rattle.master.specs.Add.{Adding}
 use Rattle.master.specs.Turn.{Turned}
 use Rattle.master.specs.Receive.{Received}
@@ -84,7 +85,7 @@ dataTelegram status = Data Absent Absent status
 -- an add, a turn and a reply do what their contracts say, on the pools of the bench and on fresh ones
 abbrev pub PlacedOn : Bench → ℕ → ℕ → List ℕ → List ℕ → Placed → Type 0
 PlacedOn b address image user config r =
-    Adding (b .unit) (caseAddition address image) user config (b .setup) (b .inputs) (zeros 8) (zeros 8) (r .bench .setup) (r .bench .inputs) (r .outputs) (r .diags)
+    Adding (b .unit) (caseAddition address image) user config (poolsOf (b .setup) (b .inputs) (zeros 8) (zeros 8)) (poolsOf (r .bench .setup) (r .bench .inputs) (r .outputs) (r .diags))
     (record { refusal = r .refusal; handle = r .handle; master = r .bench .unit })
 
 pub record SeenOn (b : Bench) (time : ℕ) (r : Seen) : Type 0 where

@@ -1,6 +1,7 @@
 -- `add` meets its contract: the add's own, on the lent fronts.
 use mathlib.Core.Path.{_≡_, sym}
 use lib.ListN.{length, take}
+use Rattle.master.specs.Pools.{poolsOf}
 use Rattle.master.specs.Add.{Adding}
 use Rattle.script_driver.specs.Arrays.{lend}
 use Rattle.script_driver.proofs.Laws.{front-le, front-size, short-take, lent-front, lent-behind, moved4}
@@ -113,12 +114,12 @@ returns c =
     let hi : length li ≡ length (take (i .result) (a .inputs .now)) = t .kept .1 .1 .1 .1 .1 .0 in
     let hq : length lq ≡ length (take (q .result) (a .outputs .now)) = t .kept .1 .1 .1 .1 .1 .1 .0 in
     let hd : length ld ≡ length (take (d .result) (a .diags .now)) = t .kept .1 .1 .1 .1 .1 .1 .1 .0 in
-    let taken : Adding (a .run .unit) (a .addition) (a .user .now) (a .config .now) (lend ns (a .setup .now)) (lend ni (a .inputs .now)) (lend nq (a .outputs .now)) (lend nd (a .diags .now)) ls li lq ld (t .result) =
-    moved4 (λ x y z w. Adding (a .run .unit) (a .addition) (a .user .now) (a .config .now) x y z w ls li lq ld (t .result))
+    let taken : Adding (a .run .unit) (a .addition) (a .user .now) (a .config .now) (poolsOf (lend ns (a .setup .now)) (lend ni (a .inputs .now)) (lend nq (a .outputs .now)) (lend nd (a .diags .now))) (poolsOf ls li lq ld) (t .result) =
+    moved4 (λ x y z w. Adding (a .run .unit) (a .addition) (a .user .now) (a .config .now) (poolsOf x y z w) (poolsOf ls li lq ld) (t .result))
     (short-take ns (s .result) (a .setup .now) (s .ensures)) (short-take ni (i .result) (a .inputs .now) (i .ensures)) (short-take nq (q .result) (a .outputs .now) (q .ensures)) (short-take nd (d .result) (a .diags .now) (d .ensures)) (t .ensures) in
     record {
       call =
-          moved4 (λ x y z w. Adding (a .run .unit) (a .addition) (a .user .now) (a .config .now) (lend ns (a .setup .now)) (lend ni (a .inputs .now)) (lend nq (a .outputs .now)) (lend nd (a .diags .now)) x y z w (t .result))
+          moved4 (λ x y z w. Adding (a .run .unit) (a .addition) (a .user .now) (a .config .now) (poolsOf (lend ns (a .setup .now)) (lend ni (a .inputs .now)) (lend nq (a .outputs .now)) (lend nd (a .diags .now))) (poolsOf x y z w) (t .result))
           (sym (lent-front ns (s .result) (a .setup .now) ls (s .ensures) hs)) (sym (lent-front ni (i .result) (a .inputs .now) li (i .ensures) hi)) (sym (lent-front nq (q .result) (a .outputs .now) lq (q .ensures) hq)) (sym (lent-front nd (d .result) (a .diags .now) ld (d .ensures) hd)) taken;
       setupPool = lent-behind ns (s .result) (a .setup .now) ls (s .ensures) hs;
       inputPool = lent-behind ni (i .result) (a .inputs .now) li (i .ensures) hi;
