@@ -37,9 +37,9 @@ use Rattle.log.proofs.Promised.{inv-run, read-by}
 
 -- ---- a contract, of the unit and the bytes that the function was given
 
-adding : (m n : DpMaster) (a : Addition) (user config : List ℕ) (s t i j o p d q : List ℕ) (outSetup outInputs outOutputs outDiags : List ℕ) (r : Added) → n ≡ m → t ≡ s → j ≡ i → p ≡ o → q ≡ d
-    → Adding m a user config s i o d outSetup outInputs outOutputs outDiags r → Adding n a user config t j p q outSetup outInputs outOutputs outDiags r
-adding m n a user config s t i j o p d q outSetup outInputs outOutputs outDiags r em es ei eo ed c = rw (em, es, ei, eo, ed) c
+adding : (m n : DpMaster) (a : Addition) (user config : List ℕ) (s t i j o p d q : List ℕ) (out : Pools) (r : Added) → n ≡ m → t ≡ s → j ≡ i → p ≡ o → q ≡ d
+    → Adding m a user config (poolsOf s i o d) out r → Adding n a user config (poolsOf t j p q) out r
+adding m n a user config s t i j o p d q out r em es ei eo ed c = rw (em, es, ei, eo, ed) c
 
 turning : (m n : DpMaster) (time : ℕ) (high : Bool) (s t o p buf out : List ℕ) (r : Turn) → n ≡ m → t ≡ s → p ≡ o → Turned m time high s o buf out r → Turned n time high t p buf out r
 turning m n time high s t o p buf out r em es eo c = rw (em, es, eo) c
@@ -66,7 +66,7 @@ handing w h nq k bytes m o from to seen n em eo es et ek eb en =
 
 pub allowed-step : AllowedIsStep
 allowed-step w _ _ (by-add κs a z e c lent em es ei eo ed) =
-    add-tied w _ _ _ lent _ _ _ _ z (adding (a .0) (w .unit) _ _ _ _ _ _ _ _ _ _ _ _ _ _ _ z em es ei eo ed c)
+    add-tied w _ _ _ lent _ z (adding (a .0) (w .unit) _ _ _ _ _ _ _ _ _ _ _ _ z em es ei eo ed c)
 allowed-step w _ _ (by-enter-state κs a z e c em) = entering w (a .1 .0) z (a .0) em c
 allowed-step w _ _ (by-enter-stop κs a z e c em) = entering w Stop z (a .0) em c
 allowed-step w _ _ (by-enter-clear κs a z e c em) = entering w Clear z (a .0) em c

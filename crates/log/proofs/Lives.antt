@@ -13,7 +13,7 @@ use Rattle.fdl.specs.declared.telegram.Telegram.{Telegram}
 use Rattle.fdl.specs.declared.telegram.Telegram.the-variants.{ShortConfirmation, Data as DataReply, Token, Request as RequestTelegram}
 use Rattle.payloads.specs.declared.request.Request.{Request}
 use Rattle.payloads.specs.declared.request.Request.the-variants.{Diagnosis, Parameters, Configuration, Data}
-use Rattle.payloads.specs.Request.{kindNumber}
+use Rattle.payloads.specs.Request.{kindNumber, isDiagnosis}
 use Rattle.payloads.specs.Diagnosis.{diagnosisOf, taken}
 use Rattle.station.specs.declared.visit.Visited.{Visited}
 use Rattle.station.specs.declared.visit.Visited.the-variants.{Sends, Drops, Skips}
@@ -23,20 +23,20 @@ use Rattle.station.specs.declared.state.PeripheralState.{PeripheralState}
 use Rattle.station.specs.declared.state.PeripheralState.the-variants.{Offline, WaitForParam, WaitForConfig, ValidateConfig, PreDataExchange, DataExchange}
 use Rattle.station.specs.State.{stateOf}
 use Rattle.station.specs.Record.{dueIs, withDiagnosis}
-use Rattle.station.specs.Visit.{visitedOf}
+use Rattle.station.specs.Visit.{requestIn, requestOf, visitedOf}
 use Rattle.station.specs.Heard.{isExchanged}
 use Rattle.station.proofs.Rows.{exchanging, coded, ReplyRow, heardFor, diagnosis-row, parameters-row, configuration-row, data-row}
 use Rattle.peripheral.specs.declared.record.Peripheral.{Peripheral}
-use Rattle.peripheral.specs.Record.{newBalance, resetOf, stationIs}
+use Rattle.peripheral.specs.Record.{resetOf, stationIs}
 use Rattle.peripheral.specs.Visit.{visitAction, visitedBy}
 use Rattle.peripheral.specs.Response.{payloadPart, stationDiagnosed, fitsImage, answerTo}
 use Rattle.peripheral.proofs.Laws.{answer-heard}
 use Rattle.valid.specs.Valid.{fits, Fits}
 use Rattle.valid.proofs.Stations.{action-fits, fits-due}
 use Rattle.cycle.specs.declared.refusal.Lengths.{Lengths}
-use Rattle.cycle.specs.declared.refusal.Used.{Used}
+use Rattle.master.specs.declared.unit.DpMaster.{DpMaster}
 use Rattle.master.specs.declared.add.Addition.{Addition}
-use Rattle.master.specs.Add.{rangesAt, optionsHeld, lengthsOf}
+use Rattle.master.specs.Add.{newcomer, lengthsOf}
 use Rattle.log.proofs.Wording.{is-true}
 use Rattle.log.specs.Notes.{Note, wasAdded, readdressed, wished, wentOffline, asked, got}
 use Rattle.log.specs.Words.{lastAsked, hasStatus}
@@ -55,8 +55,8 @@ abbrev pub stays : Option Request → Station → Slot → Slot
 stays k s x = slotOf k (stationIs s (x .balance)) (x .image)
 
 -- as newly added, at another address, after a reply t
-abbrev pub newSlot : Addition → Lengths → Used → Slot
-newSlot a sizes used = slotOf none (newBalance (a .address) (optionsHeld (a .options) sizes) (rangesAt used sizes)) (zeros (a .«input_len»))
+abbrev pub newSlot : DpMaster → Addition → Lengths → Slot
+newSlot m a sizes = slotOf none (newcomer m a sizes) (zeros (a .«input_len»))
 
 abbrev pub movedSlot : ℕ → Slot → Slot
 movedSlot address x = slotOf none (resetOf (x .balance) address) (x .image)
@@ -71,7 +71,7 @@ RowOf s t payload n k h = ReplyRow s (withDiagnosis (diagnosisOf payload) n s) t
 -- limit: the unit's `max_retry_limit`; then the slot and its notes
 pub data Lives (limit : ℕ) : Slot → List Note → Type 0 where
   -- added
-  joins : (a : Addition) (user config : List ℕ) (used : Used) (l : List Note) → Lives limit (newSlot a (lengthsOf a user config) used) (wasAdded a ∷ l)
+  joins : (a : Addition) (user config : List ℕ) (m : DpMaster) (l : List Note) → Lives limit (newSlot m a (lengthsOf a user config)) (wasAdded a ∷ l)
   -- its address is reset
   moves : {x : Slot} {l : List Note} → Lives limit x l → (address : ℕ) → Lives limit (movedSlot address x) (readdressed ∷ l)
   -- a caller wishes for a diagnosis
@@ -172,7 +172,7 @@ opened-wished none s l h = tt
 opened-wished (some q) s l h = (h .0, fits-due (kindNumber q) (s .«diag_needed») (stateOf (s .state)) (h .1))
 
 pub opened : {limit : ℕ} {x : Slot} {l : List Note} → Lives limit x l → AskedLast (x .request) (x .balance .station) l
-opened (joins a user config used l) = tt
+opened (joins a user config m l) = tt
 opened (moves v a) = tt
 opened (wishes {x = x} {l = l} v) = opened-wished (x .request) (x .balance .station) l (opened v)
 opened {limit} (sends {x = x} v e) = (refl, rw e at (action-fits (x .balance .options .«has_user_parameters») (x .balance .options .«has_config») (x .balance .station) limit))
@@ -195,7 +195,7 @@ module _ {limit : ℕ} {x : Slot} {l : List Note} {q : Request} (v : Lives limit
 -- ---- a fact of slots, as its laws; each may use what is known of the slot before
 
 pub record SlotFact (limit : ℕ) (P : Slot → List Note → Type 0) : Type 0 where
-  pub on-added : (a : Addition) (user config : List ℕ) (used : Used) (l : List Note) → P (newSlot a (lengthsOf a user config) used) (wasAdded a ∷ l)
+  pub on-added : (a : Addition) (user config : List ℕ) (m : DpMaster) (l : List Note) → P (newSlot m a (lengthsOf a user config)) (wasAdded a ∷ l)
   pub on-reset : {x : Slot} {l : List Note} → Lives limit x l → P x l → (address : ℕ) → P (movedSlot address x) (readdressed ∷ l)
   pub on-wish : {x : Slot} {l : List Note} → Lives limit x l → P x l → P (stays (x .request) (dueIs true (x .balance .station)) x) (wished ∷ l)
   pub on-sent : {x : Slot} {l : List Note} → Lives limit x l → P x l → (q : Request) → visitAction limit (x .balance) ≡ Sends q → P (stays (some q) (visitedOf (Sends q) (x .balance .station)) x) (asked q ∷ l)
@@ -207,7 +207,7 @@ pub record SlotFact (limit : ℕ) (P : Slot → List Note → Type 0) : Type 0 w
 
 module _ {limit : ℕ} {P : Slot → List Note → Type 0} (f : SlotFact limit P) where
   pub always : {x : Slot} {l : List Note} → Lives limit x l → P x l
-  always (joins a user config used l) = f .on-added a user config used l
+  always (joins a user config m l) = f .on-added a user config m l
   always (moves v a) = f .on-reset v (always v) a
   always (wishes v) = f .on-wish v (always v)
   always (sends v e) = f .on-sent v (always v) _ e

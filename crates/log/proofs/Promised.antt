@@ -13,11 +13,11 @@ use lib.Pow.{pow-pos}
 use borrow.Author.Tests.{eqb-true, ltb-true, ltb-false, lt-ltb}
 use Rattle.parts.proofs.Laws.{by-test, and-right, and-false}
 use Rattle.fdl.specs.declared.parameters.Parameters.{Parameters}
-use Rattle.fdl.specs.Params.{inRange, inForce, lowest}
+use Rattle.fdl.specs.Params.{creationRefusal, inForce, lowest}
 use Rattle.peripheral_set.specs.Marks.{slots, isOccupied}
 use Rattle.answers.specs.Turn.{refusedTurn}
 use Rattle.master.specs.Unit.{emptyUnit, createdOf}
-use Rattle.master.specs.Add.{userOf, configOf, lengthsOf}
+use Rattle.master.specs.Add.{userOf, configOf, lengthsOf, newcomer}
 use Rattle.master.specs.Turn.{stepAt, sweptBy}
 use Rattle.master.specs.Receive.{replyAt}
 use Rattle.master.proofs.Bits.{zero-bit}
@@ -26,7 +26,8 @@ use Rattle.access.specs.Lookup.{foundIn, inputNumber, inputsSeen}
 use Rattle.master.specs.declared.unit.DpMaster.{DpMaster}
 use Rattle.valid.proofs.Balances.{marked-below}
 use Rattle.peripheral_set.specs.declared.PeripheralHandle.{PeripheralHandle}
-use Rattle.log.specs.Calls.{Pools, World, lend, Call, add, enter, turn, reply, reset, wish, write, hand, accepted, addStep, turnStep, replyStep, addNumber, turnNumber, replyNumber, turnPayloadAt, step}
+use Rattle.master.specs.Pools.{Pools}
+use Rattle.log.specs.Calls.{World, lend, Call, add, enter, turn, reply, reset, wish, write, hand, accepted, addStep, turnStep, replyStep, addNumber, turnNumber, replyNumber, turnPayloadAt, step}
 use Rattle.log.specs.Notes.{turnOf, slotAsked, reportedOffline}
 use Rattle.log.specs.Entries.{Entry, slotLog, Frame, frameOf, occupiedIn, Moved, reached}
 use Rattle.log.specs.Words.{dueOf, imageOf, asksData}
@@ -61,13 +62,13 @@ inv-empty u pools v =
 
 inv-fresh : (u : Parameters) (pools : Pools) → Valid (createdOf u .master) → Inv (record { unit = createdOf u .master; pools = pools }) []
 unfolding createdOf
-inv-fresh u pools v = by-test (inRange u) (λ e. rw e (inv-empty (inForce u) pools (rw e at v))) (λ e. rw e (inv-empty lowest pools (rw e at v)))
+inv-fresh u pools v = by-test (eqb (creationRefusal u) 0) (λ e. rw e (inv-empty (inForce u) pools (rw e at v))) (λ e. rw e (inv-empty lowest pools (rw e at v)))
 
 -- ---- an accepted call
 
 module _ (w : World) (l : List Entry) (i : Inv w l) where
   add-kept : (a : _) (user config : List ℕ) (lent : _) (b : Bool) → b ≡ true → eqb (addNumber a user config lent w) 0 ≡ b
-      → let o = addStep b (addNumber a user config lent w) (lengthsOf a user config) a (userOf a user) (configOf a config) lent w in Valid (o .world .unit) → InvAt (add a user config lent) (o .answer) (o .world) l
+      → let o = addStep b (addNumber a user config lent w) (newcomer (w .unit) a (lengthsOf a user config)) (userOf a user) (configOf a config) lent w in Valid (o .world .unit) → InvAt (add a user config lent) (o .answer) (o .world) l
   add-kept a user config lent true t e v = inv-add w l i a user config lent (eqb-true (addNumber a user config lent w) 0 e) (addNumber a user config lent w) v
   add-kept a user config lent false t e v = absurd (false≢true t)
 
@@ -131,7 +132,7 @@ unfolding foundIn
 found-there m v h o = let b = lt-ltb (h .slot) slots (marked-below m v (h .slot) o) in rw (b, o) refl
 
 -- what `pi_i` hands out where its number is 0
-both-hold : (a b : Bool) → _≡_ {A = ℕ} (cond a (cond b 0 4) 2) 0 → (a ≡ true) × (b ≡ true)
+both-hold : (a b : Bool) → _≡_ {A = ℕ} (cond (not a) 2 (cond (not b) 4 0)) 0 → (a ≡ true) × (b ≡ true)
 both-hold true true e = (refl, refl)
 both-hold true false e = absurd (omega arith)
 both-hold false b e = absurd (omega arith)

@@ -8,23 +8,22 @@ use Prim.Native.Nat.{ℕ, _+_, _-_, _≤_, _<_}
 use native.Mathlib.Omega.{arith}
 use lib.ListN.{length, set}
 use lib.Dec.{T, eqb, ltb}
-use borrow.Author.Tests.{eqb-true, eq-eqb, ltb-true, ltb-false, lt-ltb, not-true}
+use borrow.Author.Tests.{ltb-true, ltb-false, lt-ltb}
 use Rattle.parts.proofs.Laws.{by-test}
-use Rattle.fdl.specs.Status.{carried, usableReply}
+use Rattle.fdl.specs.Status.{carried}
 use Rattle.fdl.specs.declared.telegram.Telegram.{Telegram}
 use Rattle.station.specs.declared.state.PeripheralEvent.{PeripheralEvent}
 use Rattle.station.specs.Heard.{isExchanged}
 use Rattle.peripheral.specs.declared.record.Peripheral.{Peripheral}
 use Rattle.peripheral.specs.Record.{inputImage}
-use Rattle.peripheral.specs.Response.{withHeard, hearsOf, inputsOf}
+use Rattle.peripheral.specs.Response.{replyOf, inputsOf}
 use Rattle.peripheral.proofs.Laws.{inputs-kept, inputs-length, inputs-other, exchanged-image}
 use Rattle.peripheral_set.specs.Marks.{slots, nextAfter}
 use Rattle.peripheral_set.proofs.Laws.{search-found, search-first, search-from}
 use Rattle.cycle.specs.declared.state.DpMasterState.{DpMasterState}
 use Rattle.cycle.specs.Seen.{indexOf}
 use Rattle.cycle.specs.State.{answered}
-use Rattle.cycle.specs.Refusal.{unless, replyRefusal}
-use Rattle.cycle.proofs.Laws.{passed as gone, after}
+use Rattle.cycle.proofs.Laws.{reply-open, reply-inputs}
 use Rattle.answers.specs.declared.reply_answer.ReplyAnswer.{ReplyAnswer}
 use Rattle.master.specs.declared.unit.DpMaster.{DpMaster}
 use Rattle.master.specs.Unit.{stateIs, balancesAre}
@@ -38,12 +37,6 @@ use Rattle.log.specs.Promises.{frameIn}
 use Rattle.log.proofs.Lives.{rests, replies}
 use Rattle.log.proofs.Lent.{lent-same, lent-back}
 use Rattle.log.proofs.Units.{openKind, openAt, LivesAt, Inv, InvAt, none-open, at-set}
-
-two : _≡_ {A = ℕ} 2 0 → ⊥
-two e = omega arith
-
-nine : _≡_ {A = ℕ} 9 0 → ⊥
-nine e = omega arith
 
 closes : (next : ℕ) (s : DpMasterState) → eqb (answered next s .«open_kind») 0 ≡ true
 closes next s = by-test (ltb next slots) (λ e. rw e refl) (λ e. rw e refl)
@@ -95,17 +88,11 @@ module _ (w : World) (l : List Entry) (i : Inv w l) (address : ℕ) (r : Telegra
   pool : List ℕ
   pool = lend ni (w .pools .inputs)
 
-  first-two : unless (eqb (length (lend nd (w .pools .diags))) (w .unit .parameters .«diag_pool»)) 2
-      (unless (not (eqb (w .unit .state .«open_kind») 0)) 9 (unless (ltb (w .unit .state .«open_slot») slots) 9 (unless (eqb address (openBalance (w .unit) .station .address)) 9 (unless (usableReply r (length payload)) 10 0)))) ≡ 0
-  unfolding replyRefusal
-  first-two = after (eqb (length (lend ni (w .pools .inputs))) (w .unit .parameters .«input_pool»)) 2 _ two z
-
   is-open : eqb (w .unit .state .«open_kind») 0 ≡ false
-  is-open = not-true _ (gone (not (eqb (w .unit .state .«open_kind») 0)) 9 _ nine (after (eqb (length (lend nd (w .pools .diags))) (w .unit .parameters .«diag_pool»)) 2 _ two first-two))
+  is-open = reply-open (w .unit .parameters) (w .unit .state) (openBalance (w .unit) .station .address) address r (length payload) (length (lend ni (w .pools .inputs))) (length (lend nd (w .pools .diags))) z
 
   pool-length : length (lend ni (w .pools .inputs)) ≡ w .unit .parameters .«input_pool»
-  unfolding replyRefusal
-  pool-length = eqb-true _ _ (gone (eqb (length (lend ni (w .pools .inputs))) (w .unit .parameters .«input_pool»)) 2 _ two z)
+  pool-length = reply-inputs (w .unit .parameters) (w .unit .state) (openBalance (w .unit) .station .address) address r (length payload) (length (lend ni (w .pools .inputs))) (length (lend nd (w .pools .diags))) z
 
   there : occupied (w .unit) (w .unit .state .«open_slot»)
   there = open-there (w .unit) (i .valid) is-open .there
@@ -121,7 +108,7 @@ module _ (w : World) (l : List Entry) (i : Inv w l) (address : ℕ) (r : Telegra
 
   -- the inputs as they are lent before and after
   event : PeripheralEvent
-  event = hearsOf r p payload pool (lend nd (w .pools .diags)) .event
+  event = replyOf r p payload (length pool) (length (lend nd (w .pools .diags))) .event
 
   image-here : inputImage p (inputsOf event (carried r payload) p pool) ≡ cond (isExchanged event) (carried r payload) (inputImage p pool)
   unfolding event
@@ -148,7 +135,7 @@ module _ (w : World) (l : List Entry) (i : Inv w l) (address : ℕ) (r : Telegra
 
   -- the reply at that slot
   inv-at : (a : ReplyAnswer) (diags : List ℕ) (next : ℕ) → a .event ≡ event → next ≡ nextAfter (w .unit .occupied) x
-      → let m : DpMaster = stateIs (answered next (w .unit .state)) (balancesAre (set (w .unit .peripherals) x (withHeard p (hearsOf r p payload pool (lend nd (w .pools .diags))) .peripheral)) (w .unit)) in
+      → let m : DpMaster = stateIs (answered next (w .unit .state)) (balancesAre (set (w .unit .peripherals) x (replyOf r p payload (length pool) (length (lend nd (w .pools .diags))) .peripheral)) (w .unit)) in
       Valid m
       → InvAt (reply address r payload ni nd) (replied a) (record { unit = m; pools = record { setup = w .pools .setup; inputs = back ni (inputsOf event (carried r payload) p pool) (w .pools .inputs); outputs = w .pools .outputs; diags = diags } }) l
   unfolding event x p
@@ -161,7 +148,7 @@ module _ (w : World) (l : List Entry) (i : Inv w l) (address : ℕ) (r : Telegra
         lives = λ s u.
             rw (k, ea, inputs-after)
             (at-set _ (answered next (w .unit .state)) (w .unit .peripherals) (inputsOf event (carried r payload) p pool) (λ s. slotLog s l) x _ (got r payload event) (omega (arith, below, i .valid .table))
-            (rw (closed x next (w .unit .state), image-here) (replies (seen x there) asked-here r payload pool (lend nd (w .pools .diags)))) s
+            (rw (closed x next (w .unit .state), image-here) (replies (seen x there) asked-here r payload (length pool) (length (lend nd (w .pools .diags))))) s
             (λ d. rw (closed s next (w .unit .state), image-there s u d) (rests (seen s u))));
       }
 

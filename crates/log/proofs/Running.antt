@@ -56,7 +56,7 @@ running-row s t payload n (data-unused j x d e f) = rw (d, e) refl
 running-row s t payload n (data-denied x d e f) = rw (d, e) refl
 
 pub running : {limit : ℕ} {x : Slot} {l : List Note} → Lives limit x l → isRunning (x .balance .station) ≡ runs l
-running (joins a user config used l) = refl
+running (joins a user config m l) = refl
 running (moves v a) = refl
 running (wishes v) = running v
 running (sends v e) = running v

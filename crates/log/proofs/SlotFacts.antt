@@ -4,7 +4,8 @@ use Prim.Native.Nat.{ℕ}
 use mathlib.Core.List.{List}
 use lib.Dec.{T}
 use Rattle.fdl.specs.declared.parameters.Parameters.{Parameters}
-use Rattle.log.specs.Calls.{Pools, Call}
+use Rattle.master.specs.Pools.{Pools}
+use Rattle.log.specs.Calls.{Call}
 use Rattle.log.specs.Notes.{Note}
 use Rattle.log.specs.Entries.{slotLog, occupiedIn}
 use Rattle.log.specs.Run.{run}

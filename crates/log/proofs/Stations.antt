@@ -17,7 +17,8 @@ use Rattle.station.specs.declared.state.PeripheralState.{PeripheralState}
 use Rattle.station.specs.declared.state.PeripheralState.the-variants.{Offline, WaitForParam, WaitForConfig, ValidateConfig, PreDataExchange, DataExchange}
 use Rattle.station.specs.State.{stateOf}
 use Rattle.station.specs.Record.{inState, withDiagnosis}
-use Rattle.station.specs.Visit.{actionOf}
+use Rattle.station.specs.Visit.{requestIn, actionOf}
+use Rattle.payloads.specs.Request.{isData}
 use Rattle.station.specs.Heard.{isExchanged}
 use Rattle.station.proofs.Visits.{drops, sendsData, action-drops, action-data}
 use Rattle.log.specs.Notes.{Note, isError, isDiagnosed}
@@ -160,7 +161,7 @@ module _ (s : Station) (t : Telegram) (payload : List ℕ) (hp hc rd : Bool) (h 
 -- ---- the facts of slots that the promises need
 
 pub told : {limit : ℕ} {x : Slot} {l : List Note} → Lives limit x l → Told (x .balance .station) l
-told (joins a user config used l) = record { due-is = refl; in-phase = tt }
+told (joins a user config m l) = record { due-is = refl; in-phase = tt }
 told (moves v a) = record { due-is = refl; in-phase = tt }
 told (wishes {x = x} {l = l} v) = record { due-is = refl; in-phase = same-words (stateOf (x .balance .station .state)) (hasParam l) (hasConfig l) (ready l) (told v .in-phase) }
 told (sends {x = x} {l = l} v e) = record { due-is = told v .due-is; in-phase = same-words (stateOf (x .balance .station .state)) (hasParam l) (hasConfig l) (ready l) (told v .in-phase) }
@@ -172,7 +173,7 @@ told (gets {x = x} {l = l} {t = t} {payload = payload} v o n r) =
     record { due-is = rw (last-asked v o, ← told v .due-is) (y .due-ok); in-phase = rw (last-asked v o, ← told v .due-is) (y .phase-ok) }
 
 pub image-is : {limit : ℕ} {x : Slot} {l : List Note} → Lives limit x l → x .image ≡ imageOf l
-image-is (joins a user config used l) = refl
+image-is (joins a user config m l) = refl
 image-is (moves v a) = image-is v
 image-is (wishes v) = image-is v
 image-is (sends v e) = image-is v

@@ -11,17 +11,15 @@ use Rattle.fdl.specs.declared.telegram.Telegram.{Telegram}
 use Rattle.peripheral.specs.declared.record.Peripheral.{Peripheral}
 use Rattle.peripheral.specs.declared.response.Reply.{Reply}
 use Rattle.cycle.specs.declared.refusal.Lent.{Lent}
-use Rattle.cycle.specs.declared.refusal.Lengths.{Lengths}
 use Rattle.cycle.specs.declared.state.Step.{Step}
 use Rattle.master.specs.declared.unit.DpMaster.{DpMaster}
-use Rattle.master.specs.declared.add.Addition.{Addition}
 use Rattle.peripheral.specs.Record.{resetOf, stationIs}
 use Rattle.station.specs.Record.{dueIs}
 use Rattle.peripheral_set.specs.declared.PeripheralHandle.{PeripheralHandle}
 use Rattle.peripheral_set.specs.Marks.{handleRefusal}
 use Rattle.cycle.specs.State.{closedFor}
 use Rattle.master.specs.Unit.{stateIs, balanceAt}
-use Rattle.master.specs.Add.{userOf, configOf, lengthsOf}
+use Rattle.master.specs.Add.{userOf, configOf, lengthsOf, newcomer}
 use Rattle.answers.specs.Turn.{refusedTurn}
 use Rattle.master.specs.Turn.{Swept, stepAt, sweptBy, turnAnswer}
 use Rattle.master.specs.Receive.{replyAt}
@@ -32,7 +30,8 @@ use Rattle.valid.proofs.Calls.{created-valid, enter-valid, wish-valid, reset-va
 use Rattle.valid.proofs.Turning.{turn-valid}
 use Rattle.valid.proofs.Replying.{reply-valid}
 use Rattle.valid.proofs.Adding.{add-valid}
-use Rattle.log.specs.Calls.{Pools, World, lend, back, Call, add, enter, turn, reply, reset, wish, write, hand, turned, refusal, accepted, Outcome, addStep, turnStep, replyStep, doneStep, writeStep, addNumber, turnNumber, replyNumber, writeNumber, handNumber, turnPayloadAt, step}
+use Rattle.master.specs.Pools.{Pools}
+use Rattle.log.specs.Calls.{World, lend, back, lendAll, Call, add, enter, turn, reply, reset, wish, write, hand, turned, refusal, accepted, Outcome, addStep, turnStep, replyStep, doneStep, writeStep, addNumber, turnNumber, replyNumber, writeNumber, handNumber, turnPayloadAt, step}
 use Rattle.log.specs.Run.{Run, after, run, acceptedOf}
 use Rattle.log.specs.Promises.{RefusedSame, BufferSame, NoTrace, AlwaysValid}
 
@@ -54,9 +53,9 @@ pub reply-accepted : (ok : Bool) (n : ℕ) (is : Reply) (t : Telegram) (payload 
 reply-accepted true n is t payload ni nd w e = refl
 reply-accepted false n is t payload ni nd w e = e
 
-add-same : (ok : Bool) (n : ℕ) (l : Lengths) (a : Addition) (user config : List ℕ) (lent : Lent) (w : World) → ok ≡ false → addStep ok n l a user config lent w .world ≡ w
-add-same true n l a user config lent w e = absurd (false≢true (sym e))
-add-same false n l a user config lent w e =
+add-same : (ok : Bool) (n : ℕ) (p : Peripheral) (user config : List ℕ) (lent : Lent) (w : World) → ok ≡ false → addStep ok n p user config lent w .world ≡ w
+add-same true n p user config lent w e = absurd (false≢true (sym e))
+add-same false n p user config lent w e =
     rw (back-same (lent .setup) (w .pools .setup), back-same (lent .inputs) (w .pools .inputs), back-same (lent .outputs) (w .pools .outputs), back-same (lent .diags) (w .pools .diags)) refl
 
 reply-same : (ok : Bool) (n : ℕ) (is : Reply) (t : Telegram) (payload : List ℕ) (ni nd : ℕ) (w : World) → eqb n 0 ≡ ok → accepted (replyStep ok n is t payload ni nd w .answer) ≡ false
@@ -93,7 +92,7 @@ wish-same w h e =
 pub refused-same : RefusedSame
 unfolding step
 refused-same w (add a user config lent) e =
-    add-same (eqb (addNumber a user config lent w) 0) (addNumber a user config lent w) (lengthsOf a user config) a (userOf a user) (configOf a config) lent w e
+    add-same (eqb (addNumber a user config lent w) 0) (addNumber a user config lent w) (newcomer (w .unit) a (lengthsOf a user config)) (userOf a user) (configOf a config) lent w e
 refused-same w (enter o) e = absurd (false≢true (sym e))
 refused-same w (turn time high ns nq buf) e =
     turn-same (eqb (turnNumber time ns nq buf w) 0) (turnNumber time ns nq buf w) (stepAt time high (w .unit)) (sweptBy (stepAt time high (w .unit)) (w .unit))
@@ -138,8 +137,7 @@ no-trace u pools (c ∷ cs) = one-more u pools c cs (acceptedOf u pools cs) (acc
 pub valid-step : (w : World) (c : Call) → Valid (w .unit) → Valid (step w c .world .unit)
 unfolding step
 valid-step w (add a user config lent) v =
-    add-valid (w .unit) a user config (lend (lent .setup) (w .pools .setup)) (lend (lent .inputs) (w .pools .inputs)) (lend (lent .outputs) (w .pools .outputs)) (lend (lent .diags) (w .pools .diags)) _ _ _ _ (record { refusal = _; handle = _; master = _ })
-    (record { refusal = refl; handle = refl; after = refl; setupPool = refl; inputPool = refl; outputPool = refl; diagPool = refl }) v
+    add-valid (w .unit) a user config (lendAll lent (w .pools)) _ (record { refusal = _; handle = _; master = _ }) (record { refusal = refl; handle = refl; after = refl; written = refl }) v
 valid-step w (enter o) v = enter-valid (w .unit) o v
 valid-step w (turn time high ns nq buf) v =
     turn-valid (w .unit) time high (lend ns (w .pools .setup)) (lend nq (w .pools .outputs)) buf _ (record { master = _; answer = _ }) (record { after = refl; answer = refl; bytes = refl }) v

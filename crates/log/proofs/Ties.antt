@@ -23,33 +23,19 @@ use Rattle.master.specs.declared.add.Added.{Added}
 use Rattle.master.specs.declared.turn.Turn.{Turn}
 use Rattle.master.specs.declared.receive.Answered.{Answered}
 use Rattle.master.specs.Unit.{stateIs}
+use Rattle.master.specs.Pools.{Pools}
 use Rattle.master.specs.Add.{Adding}
 use Rattle.master.specs.Turn.{Turned}
 use Rattle.master.specs.Receive.{Received}
 use Rattle.master.specs.Handle.{resetDone, wishDone}
 use Rattle.access.specs.Lookup.{foundIn, outputsSeen, OutputsWritten}
-use Rattle.log.specs.Calls.{World, lend, back, add, enter, turn, reply, reset, wish, write, hand, number, added, turned, replied, unitIs, outputsAre, handNumber, step}
+use Rattle.log.specs.Calls.{World, lend, back, lendAll, backAll, add, enter, turn, reply, reset, wish, write, hand, number, added, turned, replied, unitIs, outputsAre, handNumber, step}
 
 module _ (w : World) where
-  pub add-tied : (a : Addition) (user config : List ℕ) (lent : Lent) (outSetup outInputs outOutputs outDiags : List ℕ) (r : Added)
-      → Adding (w .unit) a user config (lend (lent .setup) (w .pools .setup)) (lend (lent .inputs) (w .pools .inputs)) (lend (lent .outputs) (w .pools .outputs)) (lend (lent .diags) (w .pools .diags)) outSetup outInputs outOutputs outDiags r
-      → step w (add a user config lent)
-      ≡ record {
-        world =
-            record {
-              unit = r .master;
-              pools =
-                  record {
-                    setup = back (lent .setup) outSetup (w .pools .setup);
-                    inputs = back (lent .inputs) outInputs (w .pools .inputs);
-                    outputs = back (lent .outputs) outOutputs (w .pools .outputs);
-                    diags = back (lent .diags) outDiags (w .pools .diags);
-                  };
-            };
-        answer = added (r .refusal) (r .handle);
-      }
+  pub add-tied : (a : Addition) (user config : List ℕ) (lent : Lent) (out : Pools) (r : Added) → Adding (w .unit) a user config (lendAll lent (w .pools)) out r
+      → step w (add a user config lent) ≡ record { world = record { unit = r .master; pools = backAll lent out (w .pools) }; answer = added (r .refusal) (r .handle) }
   unfolding step
-  add-tied a user config lent outSetup outInputs outOutputs outDiags r c = rw (c .after, c .refusal, c .handle, c .setupPool, c .inputPool, c .outputPool, c .diagPool) refl
+  add-tied a user config lent out r c = rw (c .after, c .refusal, c .handle, c .written) refl
 
   pub enter-tied : (o : OperatingState) (r : DpMaster) → r ≡ stateIs (entered o (w .unit .state)) (w .unit) → step w (enter o) ≡ record { world = unitIs r w; answer = number 0 }
   unfolding step
@@ -122,6 +108,6 @@ pub hand-any : (w : World) → Valid (w .unit) → (h : PeripheralHandle) (bytes
 hand-any w v h bytes nq o n b =
     let p = balance (w .unit) (h .slot) in
     let lent = lend nq (w .pools .outputs) in
-    let lies : p .ranges .outputs + p .ranges .«output_len» ≤ length lent = omega (arith, v .placed (h .slot) o .outputEnd, v .within .outputs) in
+    let lies : p .ranges .outputs + p .ranges .«output_len» ≤ length lent = omega (arith, v .placed (h .slot) o .outputEnd) in
     let room : roomFor (p .ranges .outputs) (p .ranges .«output_len») bytes lent ≡ true = room-yes (p .ranges .outputs) (p .ranges .«output_len») bytes lent (omega arith) (inside-yes (p .ranges .outputs) (p .ranges .«output_len») lent lies) in
     subst (λ (k : ℕ). part (p .ranges .outputs) k (putIn (p .ranges .outputs) (p .ranges .«output_len») bytes lent) ≡ bytes) b (part-put (p .ranges .outputs) (p .ranges .«output_len») bytes lent ∙ rw room refl)

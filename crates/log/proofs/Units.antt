@@ -21,12 +21,11 @@ use Rattle.peripheral_set.specs.Marks.{handleRefusal}
 use Rattle.cycle.specs.declared.state.DpMasterState.{DpMasterState}
 use Rattle.cycle.specs.declared.state.OperatingState.{OperatingState}
 use Rattle.cycle.specs.declared.state.OperatingState.the-variants.{Stop, Clear, Operate}
-use Rattle.cycle.specs.State.{operatingNumber, operatingOf, entered, placed}
-use Rattle.cycle.specs.Refusal.{addressRefusal}
-use Rattle.cycle.proofs.Laws.{or-first}
+use Rattle.cycle.specs.State.{operatingNumber, operatingOf, entered, closed}
 use Rattle.master.specs.declared.unit.DpMaster.{DpMaster}
 use Rattle.master.specs.Unit.{stateIs, balancesAre}
 use Rattle.master.specs.Handle.{resetRefusal, resetDone, wishDone}
+use Rattle.master.proofs.Checks.{reset-handle}
 use Rattle.valid.specs.Valid.{Valid, occupied}
 use Rattle.valid.proofs.Balances.{marked-below}
 use Rattle.valid.proofs.Calls.{handle-there, index-is}
@@ -157,7 +156,7 @@ module _ (w : World) (l : List Entry) (i : Inv w l) where
 
   reset-at : (h : PeripheralHandle) (address : ℕ) (x : Answer) (b : Bool) → eqb (w .unit .state .«open_slot») (h .slot) ≡ b → occupied (w .unit) (h .slot)
       → let s = w .unit .state in
-      let m : DpMaster = stateIs (cond b (placed (s .slot) (s .completed) 0 0 s) s) (balancesAre (set (w .unit .peripherals) (h .slot) (resetOf (getD (w .unit .peripherals) (h .slot) blank) address)) (w .unit)) in
+      let m : DpMaster = stateIs (cond b (closed s) s) (balancesAre (set (w .unit .peripherals) (h .slot) (resetOf (getD (w .unit .peripherals) (h .slot) blank) address)) (w .unit)) in
       Valid m → InvAt (reset h address) x (unitIs m w) l
   unfolding closed
   reset-at h address x b e o v =
@@ -181,5 +180,5 @@ module _ (w : World) (l : List Entry) (i : Inv w l) where
   unfolding resetDone
   inv-reset h address e v =
       let n = eqb-true (resetRefusal (w .unit .parameters) (w .unit .occupied) h address) 0 e in
-      let z = or-first (handleRefusal h (w .unit .occupied)) (addressRefusal (w .unit .parameters) address) n in
+      let z = reset-handle (w .unit .parameters) (w .unit .occupied) h address n in
       rw (e, index-is (w .unit) h z) (reset-at h address _ (eqb (w .unit .state .«open_slot») (h .slot)) refl (handle-there (w .unit) h z) (rw (e, index-is (w .unit) h z) at v))

@@ -18,7 +18,8 @@ use Rattle.peripheral_set.specs.declared.PeripheralHandle.{PeripheralHandle}
 use Rattle.cycle.specs.declared.state.OperatingState.the-variants.{Operate}
 use Rattle.answers.specs.declared.turn.Transmission.{Transmission}
 use Rattle.answers.specs.declared.turn.Transmission.the-variants.{Nothing, Control, Request}
-use Rattle.log.specs.Calls.{Pools, World, Call, add, enter, turn, reply, Answer, number, added, turned, replied, step}
+use Rattle.master.specs.Pools.{Pools}
+use Rattle.log.specs.Calls.{World, Call, add, enter, turn, reply, Answer, number, added, turned, replied, step}
 use Rattle.log.specs.Run.{run}
 
 -- ---- the bench

@@ -12,9 +12,8 @@ use Rattle.peripheral.specs.declared.record.Peripheral.{Peripheral}
 use Rattle.peripheral.specs.declared.response.Reply.{Reply}
 use Rattle.peripheral.specs.Response.{inputsOf, diagsOf, diagnosisTaken}
 use Rattle.peripheral_set.specs.declared.PeripheralHandle.{PeripheralHandle}
-use Rattle.peripheral_set.specs.Marks.{firstEmpty}
+use Rattle.peripheral_set.specs.Marks.{noHandle, firstEmpty}
 use Rattle.cycle.specs.declared.refusal.Lent.{Lent}
-use Rattle.cycle.specs.declared.refusal.Lengths.{Lengths}
 use Rattle.cycle.specs.declared.state.OperatingState.{OperatingState}
 use Rattle.cycle.specs.declared.state.Step.{Step}
 use Rattle.cycle.specs.Refusal.{turnRefusal, replyRefusal}
@@ -27,7 +26,8 @@ use Rattle.master.specs.declared.unit.DpMaster.{DpMaster}
 use Rattle.master.specs.declared.unit.Done.{Done}
 use Rattle.master.specs.declared.add.Addition.{Addition}
 use Rattle.master.specs.Unit.{stateIs}
-use Rattle.master.specs.Add.{userOf, configOf, lengthsOf, setupAfter, cleared, unitAdded, refusalOf}
+use Rattle.master.specs.Pools.{Pools, poolsOf}
+use Rattle.master.specs.Add.{userOf, configOf, lengthsOf, newcomer, unitAdded, poolsAfter, refusalOf}
 use Rattle.master.specs.Turn.{Swept, stepAt, sweptBy, unitTurned, turnPayload, turnAnswer}
 use Rattle.master.specs.Receive.{openBalance, replyAt, replyAnswer, unitReplied}
 use Rattle.master.specs.Handle.{resetDone, wishDone}
@@ -35,13 +35,7 @@ use Rattle.access.specs.Lookup.{foundIn, outputNumber, writeRefusal}
 
 -- ---- the unit and its pools
 
--- the four arrays of the caller, of any length and with any contents
-pub record Pools : Type 0 where
-  pub setup : List ℕ
-  pub inputs : List ℕ
-  pub outputs : List ℕ
-  pub diags : List ℕ
-
+-- the unit and the four arrays of the caller, of any length and with any contents
 pub record World : Type 0 where
   pub unit : DpMaster
   pub pools : Pools
@@ -57,6 +51,15 @@ back n out pool = out ++ drop n pool
 -- the array after a call that does f to the part that it is lent, where it is not refused
 abbrev pub afterLent : Bool → ℕ → (List ℕ → List ℕ) → List ℕ → List ℕ
 afterLent ok n f pool = back n (cond ok (f (lend n pool)) (lend n pool)) pool
+
+-- all four
+abbrev pub lendAll : Lent → Pools → Pools
+lendAll lent pools = poolsOf (lend (lent .setup) (pools .setup)) (lend (lent .inputs) (pools .inputs)) (lend (lent .outputs) (pools .outputs)) (lend (lent .diags) (pools .diags))
+
+abbrev pub backAll : Lent → Pools → Pools → Pools
+backAll lent out pools =
+    poolsOf (back (lent .setup) (out .setup) (pools .setup)) (back (lent .inputs) (out .inputs) (pools .inputs)) (back (lent .outputs) (out .outputs) (pools .outputs))
+    (back (lent .diags) (out .diags) (pools .diags))
 
 -- ---- calls and answers
 
@@ -100,21 +103,16 @@ pub record Outcome : Type 0 where
 
 -- ---- what each call does; ok: it is not refused, n is its number
 
-abbrev pub addStep : Bool → ℕ → Lengths → Addition → List ℕ → List ℕ → Lent → World → Outcome
-addStep ok n l a user config lent w =
+-- p is the new balance
+abbrev pub addStep : Bool → ℕ → Peripheral → List ℕ → List ℕ → Lent → World → Outcome
+addStep ok n p user config lent w =
     record {
       world =
           record {
-            unit = cond ok (unitAdded (w .unit) a l) (w .unit);
-            pools =
-                record {
-                  setup = afterLent ok (lent .setup) (setupAfter (w .unit .used .setup) user config) (w .pools .setup);
-                  inputs = afterLent ok (lent .inputs) (cleared (w .unit .used .inputs) (l .inputs)) (w .pools .inputs);
-                  outputs = afterLent ok (lent .outputs) (cleared (w .unit .used .outputs) (l .outputs)) (w .pools .outputs);
-                  diags = afterLent ok (lent .diags) (cleared (w .unit .used .diags) (l .room)) (w .pools .diags);
-                };
+            unit = cond ok (unitAdded (w .unit) p) (w .unit);
+            pools = backAll lent (cond ok (poolsAfter p user config (lendAll lent (w .pools))) (lendAll lent (w .pools))) (w .pools);
           };
-      answer = added n (cond ok (record { slot = firstEmpty (w .unit .occupied); address = a .address }) (record { slot = 255; address = 255 }));
+      answer = added n (cond ok (record { slot = firstEmpty (w .unit .occupied); address = p .station .address }) noHandle);
     }
 
 abbrev pub unitIs : DpMaster → World → World
@@ -159,9 +157,7 @@ writeStep ok n p bytes nq w =
 -- ---- the refusals, over what is lent
 
 abbrev pub addNumber : Addition → List ℕ → List ℕ → Lent → World → ℕ
-addNumber a user config lent w =
-    refusalOf (w .unit) a (lengthsOf a user config) (lend (lent .setup) (w .pools .setup)) (lend (lent .inputs) (w .pools .inputs)) (lend (lent .outputs) (w .pools .outputs))
-    (lend (lent .diags) (w .pools .diags))
+addNumber a user config lent w = refusalOf (w .unit) a (lengthsOf a user config) (lendAll lent (w .pools))
 
 abbrev pub turnNumber : ℕ → ℕ → ℕ → List ℕ → World → ℕ
 turnNumber time ns nq buf w =
@@ -186,7 +182,7 @@ turnPayloadAt time high ns nq w =
 
 unfoldable pub step : World → Call → Outcome
 step w (add a user config lent) =
-    addStep (eqb (addNumber a user config lent w) 0) (addNumber a user config lent w) (lengthsOf a user config) a (userOf a user) (configOf a config) lent w
+    addStep (eqb (addNumber a user config lent w) 0) (addNumber a user config lent w) (newcomer (w .unit) a (lengthsOf a user config)) (userOf a user) (configOf a config) lent w
 step w (enter o) = record { world = unitIs (stateIs (entered o (w .unit .state)) (w .unit)) w; answer = number 0 }
 step w (turn time high ns nq buf) =
     turnStep (eqb (turnNumber time ns nq buf w) 0) (turnNumber time ns nq buf w) (stepAt time high (w .unit)) (sweptBy (stepAt time high (w .unit)) (w .unit))

@@ -4,7 +4,8 @@ use mathlib.Core.Bool.{cond}
 use mathlib.Core.List.{List, [], _∷_}
 use Rattle.fdl.specs.declared.parameters.Parameters.{Parameters}
 use Rattle.master.specs.Unit.{createdOf}
-use Rattle.log.specs.Calls.{Call, Pools, World, Outcome, accepted, step}
+use Rattle.master.specs.Pools.{Pools}
+use Rattle.log.specs.Calls.{Call, World, Outcome, accepted, step}
 use Rattle.log.specs.Entries.{Entry}
 
 pub record Run : Type 0 where

@@ -10,7 +10,8 @@ use Rattle.fdl.specs.declared.parameters.Parameters.{Parameters}
 use Rattle.fdl.specs.declared.telegram.Telegram.{Telegram}
 use Rattle.fdl.specs.declared.telegram.Telegram.the-variants.{ShortConfirmation, Data}
 use Rattle.cycle.specs.declared.state.OperatingState.the-variants.{Operate}
-use Rattle.log.specs.Calls.{Pools, Call, add, enter, turn, reply, wish}
+use Rattle.master.specs.Pools.{Pools}
+use Rattle.log.specs.Calls.{Call, add, enter, turn, reply, wish}
 
 -- ---- the bench: limit 1, address 2, watchdog 2 and 5; pools of 4, 3, 2 and 0 bytes
 

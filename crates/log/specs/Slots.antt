@@ -22,7 +22,8 @@ use Rattle.station.specs.Heard.{isExchanged}
 use Rattle.answers.specs.declared.turn.Transmission.{Transmission}
 use Rattle.answers.specs.declared.turn.Transmission.the-variants.{Nothing, Control, Request as Asks}
 use Rattle.valid.specs.Valid.{balance}
-use Rattle.log.specs.Calls.{Pools, Call, turn, step}
+use Rattle.master.specs.Pools.{Pools}
+use Rattle.log.specs.Calls.{Call, turn, step}
 use Rattle.log.specs.Notes.{ofReply, fresh, turnOf, slotAsked, Note}
 use Rattle.log.specs.Entries.{slotLog, occupiedIn}
 use Rattle.log.specs.Words.{lastAsked, dueOf, fall, notEnabled}

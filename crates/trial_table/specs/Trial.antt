@@ -18,7 +18,8 @@ use Rattle.answers.specs.declared.turn.Transmission.{Transmission}
 use Rattle.answers.specs.declared.turn.Transmission.the-variants.{Nothing, Control, Request}
 use Rattle.master.specs.Unit.{balanceAt}
 use Rattle.master.specs.Handle.{balanceIs}
-use Rattle.log.specs.Calls.{Pools, World, Call, add, enter, turn, reply, Answer, number, added, turned, replied, refusal, accepted, Outcome as Done, step}
+use Rattle.master.specs.Pools.{Pools}
+use Rattle.log.specs.Calls.{World, Call, add, enter, turn, reply, Answer, number, added, turned, replied, refusal, accepted, Outcome as Done, step}
 use Rattle.log.specs.Run.{run}
 
 -- ---- the bench of every trial: the watchdog, Tsdr, ident and groups of the first, the slot time of the eighth
