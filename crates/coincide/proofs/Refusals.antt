@@ -9,8 +9,6 @@ use Rattle.refusals.proofs.lent.Kinds as K·lent
 use Rattle.refusals.proofs.lent.Reads as R·lent
 use Rattle.refusals.proofs.buffer.Kinds as K·buffer
 use Rattle.refusals.proofs.buffer.Reads as R·buffer
-use Rattle.refusals.proofs.list.Kinds as K·list
-use Rattle.refusals.proofs.list.Reads as R·list
 use Rattle.refusals.proofs.turn.Kinds as K·turn
 use Rattle.refusals.proofs.turn.Reads as R·turn
 use Rattle.refusals.proofs.handle.Kinds as K·handle
@@ -38,9 +36,6 @@ lent κs a z y e f p q = same p q
 
 pub buffer : Coincide 0 K·buffer.ps K·buffer.r R·buffer.Learnt (λ κs z y e f. z ≡ y)
 buffer κs a z y e f p q = same p q
-
-pub list : Coincide 0 K·list.ps K·list.r R·list.Learnt (λ κs z y e f. z ≡ y)
-list κs a z y e f p q = same p q
 
 pub turn : Coincide 0 K·turn.ps K·turn.r R·turn.Learnt (λ κs z y e f. z ≡ y)
 turn κs a z y e f p q = same p q

@@ -4,6 +4,7 @@ use Prim.Native.Nat.{ℕ}
 use mathlib.Core.Bool.{Bool, true, false, _&&_, _||_}
 use mathlib.Core.List.{List, [], _∷_}
 use lib.Dec.{eqb, leb}
+use Rattle.refusals.specs.Table.{maxPayload}
 use Rattle.fdl.specs.declared.telegram.Telegram.{Telegram}
 use Rattle.fdl.specs.declared.telegram.Telegram.the-variants.{ShortConfirmation, Data, Token, Request}
 
@@ -33,10 +34,6 @@ carried ShortConfirmation payload = []
 carried (Data dsap ssap status) payload = payload
 carried Token payload = []
 carried Request payload = []
-
--- the largest payload of a reply
-abbrev pub maxPayload : ℕ
-maxPayload = 246
 
 -- the reply with so many payload bytes is not refused as 10
 abbrev pub usableReply : Telegram → ℕ → Bool

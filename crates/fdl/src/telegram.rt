@@ -3,6 +3,7 @@ ghost use mathlib.Core.Path.{_≡_};
 ghost use Rattle.fdl.specs.Bits.{cycled, fcbOf, fcvOf, bitNumber, bitOf, requestNumber};
 ghost use Rattle.fdl.specs.Status.{among, codes, isShort, usableReply};
 use crate::consts::Sap;
+use refusals::MAX_PAYLOAD;
 
 // The bit that tells a repeated request from a new one; inactive in global control.
 pub enum FrameCountBit {
@@ -153,7 +154,7 @@ impl Telegram {
                 status,
             } => {
                 if usable_status(status) {
-                    len <= 246
+                    len <= MAX_PAYLOAD
                 } else {
                     false
                 }

@@ -19,7 +19,7 @@ entries m = map (entryAt m) (listed (m .occupied))
 
 -- a list under 32 entries is refused
 abbrev pub listRefusal : ℕ → ℕ
-listRefusal room = firstOf (listRow room ∷ [])
+listRefusal room = firstOf (listRow slots room ∷ [])
 
 -- what is written into a list of so many entries: all of them, or nothing where it is refused
 abbrev pub shown : DpMaster → ℕ → List Entry

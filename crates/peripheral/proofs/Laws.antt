@@ -25,14 +25,14 @@ use Rattle.station.proofs.Heards.{acknowledgement-keeps}
 use Rattle.station.proofs.Rows.{heardFor}
 use Rattle.peripheral.specs.declared.record.Peripheral.{Peripheral}
 use Rattle.peripheral.specs.Record.{inputImage}
-use Rattle.peripheral.specs.Response.{partFits, stationDiagnosed, fitsImage, answerTo, replyOf, withImage, withPart, inputsOf, diagsOf}
+use Rattle.peripheral.specs.Response.{partFits, diagnosisAnswer, stationDiagnosed, fitsImage, answerTo, replyOf, withImage, withPart, inputsOf, diagsOf}
 use Rattle.peripheral.proofs.Pools.{diagnosis-event, fits}
 
 -- ---- what a balance makes of a reply is what its station makes of it
 
 pub answer-heard : (k : Request) (t : Telegram) (p : Peripheral) (payload : List ℕ) (inputs diags : ℕ)
     → answerTo k t p payload inputs diags ≡ heardFor k t (taken t (length payload)) (stationDiagnosed p payload diags) (fitsImage t p (length payload) inputs) (p .station)
-unfolding answerTo
+unfolding answerTo diagnosisAnswer
 answer-heard Diagnosis t p payload inputs diags = refl
 answer-heard Parameters t p payload inputs diags = refl
 answer-heard Configuration t p payload inputs diags = refl

@@ -23,7 +23,7 @@ use Rattle.station.specs.Visit.{requestOf}
 use Rattle.station.specs.Heard.{dataHeard, isExchanged}
 use Rattle.station.proofs.Heards.{diagnosis-keeps, acknowledgement-keeps, data-fits}
 use Rattle.peripheral.specs.declared.record.Peripheral.{Peripheral}
-use Rattle.peripheral.specs.Response.{payloadPart, stationDiagnosed, fitsImage, answerTo, keepsOf, replyOf, withImage, withPart, Kept, diagnosisTaken, inputsOf, diagsOf}
+use Rattle.peripheral.specs.Response.{payloadPart, stationDiagnosed, fitsImage, diagnosisAnswer, diagnosisKeeps, answerTo, keepsOf, replyOf, withImage, withPart, Kept, diagnosisTaken, inputsOf, diagsOf}
 
 -- ---- parts and puts
 
@@ -59,7 +59,7 @@ came RequestTelegram p payload inputs e = absurd (false≢true e)
 module _ (t : Telegram) (p : Peripheral) (payload inputs diags : List ℕ) where
   -- a taken diagnosis reports no DataExchanged, and one that is not taken neither
   pub diagnosis-event : isExchanged (answerTo Diagnosis t p payload (length inputs) (length diags) .event) ≡ false
-  unfolding answerTo
+  unfolding answerTo diagnosisAnswer
   diagnosis-event = by-test (taken t (length payload)) (λ e. rw e (diagnosis-keeps (stateOf (p .station .state)) (stationDiagnosed p payload (length diags)))) (λ e. rw e refl)
 
   pub fits : isExchanged (answerTo Data t p payload (length inputs) (length diags) .event) ≡ true → fitsImage t p (length payload) (length inputs) ≡ true
@@ -71,7 +71,7 @@ module _ (t : Telegram) (p : Peripheral) (payload inputs diags : List ℕ) where
     Stands k = Kept (keepsOf k t p payload (length diags) (answerTo k t p payload (length inputs) (length diags) .event)) p payload inputs diags outInputs outDiags
 
     input-pool : (k : Request) → Stands k → outInputs ≡ inputsOf (answerTo k t p payload (length inputs) (length diags) .event) (carried t payload) p inputs
-    unfolding keepsOf answerTo
+    unfolding keepsOf answerTo diagnosisKeeps
     input-pool Diagnosis s =
         rw diagnosis-event (by-test (taken t (length payload) && payloadPart p payload (length diags) .fits) (λ e. rw e at (s .inputPool)) (λ e. rw e at (s .inputPool)))
     input-pool Parameters s = rw (acknowledgement-keeps (isShort t) WaitForConfig (p .station)) (s .inputPool)
@@ -82,7 +82,7 @@ module _ (t : Telegram) (p : Peripheral) (payload inputs diags : List ℕ) where
         (λ e. rw e (rw e at (s .inputPool)))
 
     diag-pool : (k : Request) → Stands k → outDiags ≡ diagsOf (isDiagnosis k && taken t (length payload)) p payload diags
-    unfolding keepsOf answerTo
+    unfolding keepsOf answerTo diagnosisKeeps
     diag-pool Diagnosis s =
         by-test (taken t (length payload) && payloadPart p payload (length diags) .fits) (λ e. rw e (rw e at (s .diagPool))) (λ e. rw e (rw e at (s .diagPool)))
     diag-pool Parameters s = s .diagPool

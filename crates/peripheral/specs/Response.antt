@@ -61,17 +61,24 @@ fitsImage RequestTelegram p n inputs = false
 
 -- ---- the reply, as the answer to a request
 
+-- what the station makes of a reply to a diagnosis request, and whether its part from byte 6 is kept
+unfoldable pub diagnosisAnswer : Telegram → Peripheral → List ℕ → ℕ → Heard
+diagnosisAnswer t p payload diags =
+    cond (taken t (length payload)) (diagnosisHeard (stateOf (p .station .state)) (stationDiagnosed p payload diags)) (diagnosisMissed (stateOf (p .station .state)) (p .station))
+
+unfoldable pub diagnosisKeeps : Telegram → Peripheral → List ℕ → ℕ → Keeps
+diagnosisKeeps t p payload diags = cond (taken t (length payload) && payloadPart p payload diags .fits) Part Nothing
+
 -- what the station makes of it
 unfoldable pub answerTo : Request → Telegram → Peripheral → List ℕ → ℕ → ℕ → Heard
-answerTo Diagnosis t p payload inputs diags =
-    cond (taken t (length payload)) (diagnosisHeard (stateOf (p .station .state)) (stationDiagnosed p payload diags)) (diagnosisMissed (stateOf (p .station .state)) (p .station))
+answerTo Diagnosis t p payload inputs diags = diagnosisAnswer t p payload diags
 answerTo Parameters t p payload inputs diags = acknowledgementHeard (isShort t) WaitForConfig (p .station)
 answerTo Configuration t p payload inputs diags = acknowledgementHeard (isShort t) ValidateConfig (p .station)
 answerTo Data t p payload inputs diags = dataHeard t (fitsImage t p (length payload) inputs) (p .station)
 
 -- what of its payload is kept, with this event
 unfoldable pub keepsOf : Request → Telegram → Peripheral → List ℕ → ℕ → PeripheralEvent → Keeps
-keepsOf Diagnosis t p payload diags e = cond (taken t (length payload) && payloadPart p payload diags .fits) Part Nothing
+keepsOf Diagnosis t p payload diags e = diagnosisKeeps t p payload diags
 keepsOf Parameters t p payload diags e = Nothing
 keepsOf Configuration t p payload diags e = Nothing
 keepsOf Data t p payload diags e = cond (isExchanged e) Image Nothing

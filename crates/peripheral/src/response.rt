@@ -3,9 +3,8 @@ ghost use mathlib.Core.Path.{_≡_};
 ghost use mathlib.Core.Bool.{cond};
 ghost use Prim.Native.Nat.{_≤_};
 ghost use Rattle.parts.specs.Parts.{part};
-ghost use Rattle.payloads.specs.declared.request.Request.the-variants.{Diagnosis};
 ghost use Rattle.station.specs.Heard.{isExchanged};
-ghost use Rattle.peripheral.specs.Response.{extendedOf, fitsImage, withHeard, replyTo, replyOf, withImage, withPart, Kept};
+ghost use Rattle.peripheral.specs.Response.{extendedOf, fitsImage, diagnosisAnswer, diagnosisKeeps, withHeard, replyOf, withImage, withPart, Kept};
 use crate::record::Peripheral;
 use fdl::telegram::Telegram;
 use payloads::diagnosis;
@@ -119,14 +118,8 @@ impl Peripheral {
     }
 
     // A diagnosis was asked for.
-    fn handle_diagnostics_response(
-        self,
-        telegram: Telegram,
-        payload: &[u8],
-        inputs: usize,
-        diags: usize,
-    ) -> Reply
-        ensures { λ r. ⌜ r ≡ replyTo Diagnosis telegram self (now (payload .entry)) inputs diags ⌝ }
+    fn handle_diagnostics_response(self, telegram: Telegram, payload: &[u8], diags: usize) -> Reply
+        ensures { λ r. ⌜ r ≡ withHeard self (diagnosisAnswer telegram self (now (payload .entry)) diags) (diagnosisKeeps telegram self (now (payload .entry)) diags) ⌝ }
     {
         let s = self.station;
         if diagnosis::is_taken(telegram, payload.len()) {
@@ -151,12 +144,7 @@ impl Peripheral {
         let s = self.station;
         let kind = s.request();
         match kind {
-            Request::Diagnosis => self.handle_diagnostics_response(
-                telegram,
-                payload,
-                inputs,
-                diags,
-            ),
+            Request::Diagnosis => self.handle_diagnostics_response(telegram, payload, diags),
             Request::Parameters => {
                 let h = s.acknowledgement_heard(
                     telegram.is_short_confirmation(),

@@ -26,10 +26,6 @@ maxPool = 16384
 abbrev pub minBuffer : ℕ
 minBuffer = 244
 
--- the shortest list of entries
-abbrev pub minList : ℕ
-minList = 32
-
 -- the longest payload of a reply
 abbrev pub maxPayload : ℕ
 maxPayload = 246
@@ -101,9 +97,9 @@ lentRow len pool = record { number = badLent; applies = not (eqb len pool) }
 abbrev pub bufferRow : ℕ → Row
 bufferRow len = record { number = badLent; applies = ltb len minBuffer }
 
--- list under 32 entries
-abbrev pub listRow : ℕ → Row
-listRow entries = record { number = badLent; applies = ltb entries minList }
+-- list with fewer entries than there are slots
+abbrev pub listRow : ℕ → ℕ → Row
+listRow slots entries = record { number = badLent; applies = ltb entries slots }
 
 -- turn: time before that of the last accepted turn
 abbrev pub turnRow : ℕ → ℕ → Row

@@ -2,7 +2,7 @@
 // Every call's refusal is a run of these rows in the table's order; each is given the number so far, so that the first that applies is the answer.
 ghost use mathlib.Core.Path.{_≡_};
 ghost use mathlib.Core.Bool.{cond, _||_};
-ghost use Rattle.refusals.specs.Table.{orElse, said, parameterRow, lentRow, bufferRow, listRow, turnRow, handleRow, fullRow, addressRow, lengthRow, roomRow, askedRow, usableRow, writeRow};
+ghost use Rattle.refusals.specs.Table.{orElse, said, parameterRow, lentRow, bufferRow, turnRow, handleRow, fullRow, addressRow, lengthRow, roomRow, askedRow, usableRow, writeRow};
 
 // The numbers. The definitions say them and the limits again.
 pub const DONE: u8 = 0;
@@ -40,10 +40,6 @@ pub const MAX_POOL: u32 = 16384;
 
 pub const MIN_BUFFER: usize = 244;
 
-pub const MIN_LIST: usize = 32;
-
-pub const MAX_PAYLOAD: usize = 246;
-
 pub const MAX_USER: usize = 237;
 
 pub const MAX_CONFIG: usize = 244;
@@ -51,6 +47,8 @@ pub const MAX_CONFIG: usize = 244;
 pub const MAX_IMAGE: usize = 244;
 
 pub const MAX_ROOM: usize = 238;
+
+pub const MAX_PAYLOAD: usize = 246;
 
 // The number so far where there is one; else the row's number where it applies, and 0 where it does not.
 fn number(so_far: u8, applies: bool, n: u8) -> u8
@@ -91,13 +89,6 @@ pub fn buffer(so_far: u8, len: usize) -> u8
     ensures { λ r. ⌜ r ≡ orElse «so_far» (said (bufferRow len)) ⌝ }
 {
     number(so_far, len < MIN_BUFFER, BAD_LENT)
-}
-
-// 2: a list that is too short.
-pub fn list(so_far: u8, entries: usize) -> u8
-    ensures { λ r. ⌜ r ≡ orElse «so_far» (said (listRow entries)) ⌝ }
-{
-    number(so_far, entries < MIN_LIST, BAD_LENT)
 }
 
 // 3: a time before that of the last accepted turn.

@@ -10,7 +10,7 @@ use Rattle.station.specs.Record.{withDiagnosis}
 use Rattle.station.specs.Visit.{actionOf}
 use Rattle.station.specs.Heard.{byFlags}
 use Rattle.peripheral.specs.Visit.{payloadOf}
-use Rattle.peripheral.specs.Response.{partFits, stationDiagnosed, fitsImage, answerTo, keepsOf}
+use Rattle.peripheral.specs.Response.{partFits, stationDiagnosed, fitsImage, answerTo, keepsOf, diagnosisAnswer, diagnosisKeeps}
 use Rattle.peripheral_set.specs.Marks.{searchFrom}
 use Rattle.cycle.specs.State.{controlDue}
 use Rattle.cycle.specs.Refusal.{turnRefusal, replyRefusal}
@@ -22,5 +22,5 @@ use Rattle.log.specs.Calls.{step}
 use Rattle.trial_table.specs.Table.{table, lineOf, marked, expectedIn}
 
 pub rows-hold : map lineOf table ≡ expectedIn marked table
-unfolding step creationRefusal inForce createdOf emptyUnit refusalOf part inside putIn roomFor splice paramHead controlPayload diagnosisOf withDiagnosis actionOf byFlags payloadOf answerTo keepsOf stationDiagnosed partFits fitsImage searchFrom controlDue turnRefusal replyRefusal sweepFrom sweptBy turnPayload turnAnswer replyAt
+unfolding step creationRefusal inForce createdOf emptyUnit refusalOf part inside putIn roomFor splice paramHead controlPayload diagnosisOf withDiagnosis actionOf byFlags payloadOf answerTo keepsOf diagnosisAnswer diagnosisKeeps stationDiagnosed partFits fitsImage searchFrom controlDue turnRefusal replyRefusal sweepFrom sweptBy turnPayload turnAnswer replyAt
 rows-hold = refl

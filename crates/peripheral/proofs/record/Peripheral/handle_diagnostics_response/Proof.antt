@@ -1,7 +1,7 @@
 -- `handle_diagnostics_response` meets its contract: taken or not.
 use mathlib.Core.Path.{sym, _∙_}
 use Rattle.payloads.proofs.Facts.{taken-six}
-use Rattle.peripheral.specs.Response.{stationDiagnosed, answerTo, keepsOf}
+use Rattle.peripheral.specs.Response.{stationDiagnosed, diagnosisAnswer, diagnosisKeeps}
 use borrow.Author.Needs.{needs}
 use Rattle.peripheral.proofs.record.Peripheral.handle_diagnostics_response.Statement.{
   statement,
@@ -27,7 +27,7 @@ with-heard-requires : tie.Need-with-heard-requires
 with-heard-requires c κs = search needs
 
 returns : tie.Need-returns
-unfolding stationDiagnosed answerTo keepsOf
+unfolding stationDiagnosed diagnosisAnswer diagnosisKeeps
 returns c =
     let at-diagnosis-heard = c .before .before in
     let at-extended = at-diagnosis-heard .before in
@@ -44,7 +44,7 @@ with-heard-requires-2 : tie.Need-with-heard-requires-2
 with-heard-requires-2 c κs = search needs
 
 returns-2 : tie.Need-returns-2
-unfolding answerTo keepsOf
+unfolding diagnosisAnswer diagnosisKeeps
 returns-2 c = rw (sym (c .before .before .before .is-taken .ensures) ∙ c .before .before .if1 .left) (rw (c .before .diagnosis-missed .ensures) at (c .with-heard2 .ensures))
 
 pub handle-diagnostics-response-spec : {M : Type 1} → statement M

@@ -54,6 +54,7 @@ with-heard-requires-3 : tie.Need-with-heard-requires-3
 with-heard-requires-3 c κs = search needs
 
 returns : tie.Need-returns
+unfolding answerTo keepsOf
 returns c = rw (sym (c .before .before .before .request .ensures) ∙ c .before .enum-told .given .1) (c .handle-diagnostics-response .ensures)
 
 returns-2 : tie.Need-returns-2
