@@ -25,6 +25,7 @@ use Rattle.master.specs.Turn.{Turned}
 use Rattle.master.specs.Receive.{Received}
 use Rattle.master.specs.Handle.{resetDone, wishDone}
 use Rattle.access.specs.Lookup.{inputNumber, outputNumber, inputsSeen, outputsSeen, OutputsWritten}
+use Rattle.master.specs.Pools.{Pools, poolsOf}
 use Rattle.log.specs.Calls.{World, Call, Outcome, lend, back, enter, hand, number, unitIs, outputsAre, step}
 use Rattle.log.specs.Entries.{Entry, slotLog}
 use Rattle.log.specs.Words.{imageOf}

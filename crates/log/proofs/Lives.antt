@@ -114,10 +114,8 @@ fits-diagnosis Offline d h = refl
 fits-diagnosis WaitForParam d h = absurd h
 fits-diagnosis WaitForConfig d h = absurd h
 fits-diagnosis ValidateConfig d h = refl
-fits-diagnosis PreDataExchange true h = refl
-fits-diagnosis PreDataExchange false h = absurd h
-fits-diagnosis DataExchange true h = refl
-fits-diagnosis DataExchange false h = absurd h
+fits-diagnosis PreDataExchange d h = rw (is-true d h) refl
+fits-diagnosis DataExchange d h = rw (is-true d h) refl
 
 fits-parameters : (x : PeripheralState) (d : Bool) → T (fits x d (kindNumber Parameters)) → x ≡ WaitForParam
 fits-parameters Offline d h = absurd h

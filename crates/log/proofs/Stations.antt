@@ -10,7 +10,7 @@ use borrow.Author.Tests.{ltb-false, le-leb}
 use Rattle.fdl.specs.Status.{carried}
 use Rattle.fdl.specs.declared.telegram.Telegram.{Telegram}
 use Rattle.payloads.specs.declared.request.Request.{Request}
-use Rattle.payloads.specs.declared.request.Request.the-variants.{Parameters, Configuration}
+use Rattle.payloads.specs.declared.request.Request.the-variants.{Diagnosis, Parameters, Configuration, Data}
 use Rattle.station.specs.declared.record.Station.{Station}
 use Rattle.station.specs.declared.heard.Heard.{Heard}
 use Rattle.station.specs.declared.state.PeripheralState.{PeripheralState}
@@ -80,15 +80,17 @@ config-is PreDataExchange hp hc rd e h = is-true hc (and-l hc rd h)
 config-is DataExchange hp hc rd e h = is-true hc (and-l hc rd h)
 
 -- data is waited for exactly when no diagnosis is due and the notes say ready
+when-due : (d : Bool) → isData (cond d Diagnosis Data) ≡ (not d && true)
+when-due true = refl
+when-due false = refl
+
 data-when : (x : PeripheralState) (d : Bool) → isData (requestIn x d) ≡ (not d && exchanging x)
 data-when Offline d = sym (no-and (not d))
 data-when WaitForParam d = sym (no-and (not d))
 data-when WaitForConfig d = sym (no-and (not d))
 data-when ValidateConfig d = sym (no-and (not d))
-data-when PreDataExchange true = refl
-data-when PreDataExchange false = refl
-data-when DataExchange true = refl
-data-when DataExchange false = refl
+data-when PreDataExchange d = when-due d
+data-when DataExchange d = when-due d
 
 pub asked-when : (limit : ℕ) (user config : Bool) (s : Station) (l : List Note) → Told s l → drops (actionOf limit user config s) ≡ false
     → sendsData (actionOf limit user config s) ≡ (not (dueOf l) && ready l)

@@ -41,7 +41,7 @@ use Rattle.log.specs.Words.{isKind, dueOf, asksData}
 use Rattle.log.specs.Promises.{MaskEvent}
 use Rattle.payloads.specs.Request.{kindNumber}
 use Rattle.log.proofs.Visits.{kindSent, wentTo, Swung, all-visits, Lowest, Firsts, all-first, empty-bit}
-use Rattle.cycle.specs.State.{operatingOf, controlDue, stepOf, startOf, afterVisits, afterTurn}
+use Rattle.cycle.specs.State.{timed, closed, operatingOf, controlDue, stepOf, startOf, afterVisits, afterTurn}
 use Rattle.answers.specs.Turn.{transmissionOf, visitsTransmit, completesOf, fellEvent, handleOf}
 use Rattle.master.specs.Turn.{sweepFrom, stepAt, sweptBy, unitTurned, askedIn, turnAnswer}
 use Rattle.valid.specs.Valid.{Valid, balance, occupied}
@@ -155,7 +155,7 @@ sent-is Skips p k true e = absurd (Option·none-ne-some k e)
 sent-is v p k false e = absurd (Option·none-ne-some k e)
 
 -- the request that is open afterwards
-sent-open : (sent : Sent) (time : ℕ) (st : DpMasterState) (s : ℕ) → openAt (afterVisits sent time st) s ≡ kindSent s sent
+sent-open : (sent : Sent) (time : ℕ) (st : DpMasterState) (s : ℕ) → openAt (afterVisits sent (closed (timed time st))) s ≡ kindSent s sent
 sent-open Nobody time st s = none-open (eqb s 0)
 sent-open (To t Diagnosis) time st s = refl
 sent-open (To t ParameterRequest) time st s = refl

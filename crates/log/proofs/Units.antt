@@ -131,26 +131,26 @@ module _ (w : World) (l : List Entry) (i : Inv w l) where
       }
 
   -- b: the open request is that slot's, and is closed
-  closed : (t : ℕ) (b : Bool) → DpMasterState
-  closed t b = cond b (placed (w .unit .state .slot) (w .unit .state .completed) 0 0 (w .unit .state)) (w .unit .state)
+  closedAt : (t : ℕ) (b : Bool) → DpMasterState
+  closedAt t b = cond b (closed (w .unit .state)) (w .unit .state)
 
-  closed-here : (t : ℕ) (b : Bool) → eqb (w .unit .state .«open_slot») t ≡ b → openAt (closed t b) t ≡ none
-  unfolding closed
+  closed-here : (t : ℕ) (b : Bool) → eqb (w .unit .state .«open_slot») t ≡ b → openAt (closedAt t b) t ≡ none
+  unfolding closedAt
   closed-here t true e = none-open (eqb t 0)
   closed-here t false e = not-open (w .unit .state) t (λ z. eqb-false (w .unit .state .«open_slot») t e (sym z))
 
-  closed-other : (t : ℕ) (b : Bool) (s : ℕ) → eqb (w .unit .state .«open_slot») t ≡ b → (s ≡ t → ⊥) → openAt (closed t b) s ≡ openAt (w .unit .state) s
-  unfolding closed
+  closed-other : (t : ℕ) (b : Bool) (s : ℕ) → eqb (w .unit .state .«open_slot») t ≡ b → (s ≡ t → ⊥) → openAt (closedAt t b) s ≡ openAt (w .unit .state) s
+  unfolding closedAt
   closed-other t true s e d = none-open (eqb s 0) ∙ sym (not-open (w .unit .state) s (λ z. d (z ∙ eqb-true (w .unit .state .«open_slot») t e)))
   closed-other t false s e d = refl
 
-  closed-frame : (t : ℕ) (b : Bool) → frameIn (stateIs (closed t b) (w .unit)) ≡ frameIn (w .unit)
-  unfolding closed
+  closed-frame : (t : ℕ) (b : Bool) → frameIn (stateIs (closedAt t b) (w .unit)) ≡ frameIn (w .unit)
+  unfolding closedAt
   closed-frame t true = refl
   closed-frame t false = refl
 
-  closed-aimed : (t : ℕ) (b : Bool) → eqb (closed t b .«open_kind») 0 ≡ false → target l ≡ some (closed t b .«open_slot»)
-  unfolding closed
+  closed-aimed : (t : ℕ) (b : Bool) → eqb (closedAt t b .«open_kind») 0 ≡ false → target l ≡ some (closedAt t b .«open_slot»)
+  unfolding closedAt
   closed-aimed t true k = absurd (false≢true (sym k))
   closed-aimed t false k = i .aimed k
 
@@ -158,7 +158,7 @@ module _ (w : World) (l : List Entry) (i : Inv w l) where
       → let s = w .unit .state in
       let m : DpMaster = stateIs (cond b (closed s) s) (balancesAre (set (w .unit .peripherals) (h .slot) (resetOf (getD (w .unit .peripherals) (h .slot) blank) address)) (w .unit)) in
       Valid m → InvAt (reset h address) x (unitIs m w) l
-  unfolding closed
+  unfolding closedAt
   reset-at h address x b e o v =
       let t = h .slot in
       record {
@@ -166,7 +166,7 @@ module _ (w : World) (l : List Entry) (i : Inv w l) where
         frame-is = closed-frame t b ∙ i .frame-is;
         aimed = closed-aimed t b;
         lives = λ s u.
-            at-set _ (closed t b) (w .unit .peripherals) (inputsLent w) (λ s. slotLog s l) t _ readdressed (in-table t o) (rw (closed-here t b e) (moves (i .lives t o) address)) s (λ d. rw (closed-other t b s e d) (i .lives s u));
+            at-set _ (closedAt t b) (w .unit .peripherals) (inputsLent w) (λ s. slotLog s l) t _ readdressed (in-table t o) (rw (closed-here t b e) (moves (i .lives t o) address)) s (λ d. rw (closed-other t b s e d) (i .lives s u));
       }
 
   pub inv-wish : (h : PeripheralHandle) → eqb (wishDone (w .unit) h .refusal) 0 ≡ true → Valid (wishDone (w .unit) h .master) → InvAt (wish h) (doneStep (wishDone (w .unit) h) w .answer) (doneStep (wishDone (w .unit) h) w .world) l

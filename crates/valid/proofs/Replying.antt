@@ -12,6 +12,7 @@ use borrow.Author.Tests.{eqb-true, ltb-true, lt-ltb, leb-true}
 use Rattle.parts.proofs.Laws.{by-test, and-left, and-right}
 use Rattle.fdl.specs.declared.telegram.Telegram.{Telegram}
 use Rattle.payloads.specs.Diagnosis.{taken, flag, diagnosisOf}
+use Rattle.station.specs.Record.{withDiagnosis}
 use Rattle.station.specs.Visit.{requestOf}
 use Rattle.peripheral.specs.declared.record.Peripheral.{Peripheral}
 use Rattle.peripheral.specs.Record.{blank, stationIs}
@@ -56,7 +57,7 @@ taken-held payload = refl
 module _ (m : DpMaster) (t : Telegram) (payload inputs diags : List ℕ) (v : Valid m) where
   put-back : (k next : ℕ) → occupied m k
       → Valid (stateIs (answered next (m .state)) (balancesAre (set (m .peripherals) k (replyOf t (getD (m .peripherals) k blank) payload (length inputs) (length diags) .peripheral)) m))
-  unfolding stationDiagnosed
+  unfolding stationDiagnosed withDiagnosis
   put-back k next o =
       let p = getD (m .peripherals) k blank in
       let limit = m .parameters .«max_retry_limit» in
