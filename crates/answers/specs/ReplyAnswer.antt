@@ -10,7 +10,7 @@ use Rattle.fdl.specs.declared.telegram.Telegram.{Telegram}
 use Rattle.station.specs.declared.state.PeripheralEvent.{PeripheralEvent}
 use Rattle.station.specs.declared.state.PeripheralEvent.the-variants.{NoEvent, Online, Configured, ConfigError, ParameterError, DataExchanged, Diagnostics, Offline as WentOffline}
 use Rattle.peripheral.specs.declared.record.Peripheral.{Peripheral}
-use Rattle.peripheral.specs.declared.response.Keeps.the-variants.{Nothing}
+use Rattle.peripheral.specs.declared.response.Keeps.the-variants.{Neither}
 use Rattle.peripheral.specs.declared.response.Reply.{Reply}
 use Rattle.peripheral.specs.Response.{replyOf}
 use Rattle.peripheral_set.specs.declared.PeripheralHandle.{PeripheralHandle}
@@ -57,7 +57,7 @@ judgedAccepted marks s p r =
 
 -- refused: everything stays
 abbrev pub judgedRefused : DpMasterState → Peripheral → ℕ → Judged
-judgedRefused s p n = record { peripheral = p; state = s; keeps = Nothing; answer = refusedReply n }
+judgedRefused s p n = record { peripheral = p; state = s; keeps = Neither; answer = refusedReply n }
 
 -- by the refusal
 abbrev pub judgedBy : ℕ → List Bool → DpMasterState → Peripheral → Reply → Judged

@@ -6,10 +6,10 @@ use mathlib.Core.Bool.{Bool, false, cond}
 use mathlib.Core.List.{List, []}
 use lib.ListN.{length}
 use lib.Dec.{eqb}
-use Rattle.parts.specs.Parts.{inside, putIn}
+use Rattle.parts.specs.Parts.{putIn}
 use Rattle.fdl.specs.declared.parameters.Parameters.{Parameters}
 use Rattle.payloads.specs.Request.{controlHeader}
-use Rattle.payloads.specs.Payload.{controlPayload}
+use Rattle.payloads.specs.Payload.{controlPayload, lengthIn}
 use Rattle.station.specs.declared.state.PeripheralEvent.{PeripheralEvent}
 use Rattle.station.specs.declared.state.PeripheralEvent.the-variants.{NoEvent, Offline as WentOffline}
 use Rattle.peripheral.specs.declared.record.Peripheral.{Peripheral}
@@ -52,7 +52,7 @@ payloadSent Visits sent p u clear setup outputs = visitsPayload sent p u clear s
 
 -- how long the payload is that stands in the buffer, and what was sent; a payload that does not fit is not written (DECISIONS 25)
 abbrev pub filledOf : Step → Sent → Peripheral → Parameters → List ℕ → List ℕ → Filled
-filledOf step sent p u payload buf = record { len = cond (inside 0 (length payload) buf) (length payload) 0; transmission = transmissionOf step sent p u }
+filledOf step sent p u payload buf = record { len = lengthIn payload buf; transmission = transmissionOf step sent p u }
 
 pub record Filling (step : Step) (sent : Sent) (p : Peripheral) (u : Parameters) (payload buf out : List ℕ) (r : Filled) : Type 0 where
   pub answer : r ≡ filledOf step sent p u payload buf
@@ -64,8 +64,8 @@ pub record Filling (step : Step) (sent : Sent) (p : Peripheral) (u : Parameters)
 abbrev pub handleOf : ℕ → ℕ → PeripheralHandle
 handleOf first address = cond (eqb first 255) noHandle (record { slot = first; address = address })
 
-abbrev pub fellEvent : ℕ → PeripheralEvent
-fellEvent first = cond (eqb first 255) NoEvent WentOffline
+abbrev pub offlineEvent : ℕ → PeripheralEvent
+offlineEvent first = cond (eqb first 255) NoEvent WentOffline
 
 -- past the last: cycle-completed true; in steps 1 to 3 and where one sent it is false
 abbrev pub completesOf : Step → Sent → Bool
@@ -92,7 +92,7 @@ answerOf step seen address filled =
       refusal = 0;
       «cycle_completed» = completesOf step (seen .sent);
       offline = seen .mask;
-      event = fellEvent (seen .first);
+      event = offlineEvent (seen .first);
       handle = handleOf (seen .first) address;
       len = filled .len;
       transmission = filled .transmission;

@@ -91,7 +91,7 @@ pub fn judge(
         return Judged {
             peripheral: p,
             state: s,
-            keeps: Keeps::Nothing,
+            keeps: Keeps::Neither,
             answer: ReplyAnswer::refused(refusal),
         };
     }

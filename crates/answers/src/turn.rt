@@ -1,6 +1,6 @@
 // The answer of a turn, and the payload of what it sends.
 ghost use mathlib.Core.Path.{_≡_};
-ghost use Rattle.answers.specs.Turn.{payloadSent, handleOf, fellEvent, completesOf, refusedTurn, answerOf, Filling};
+ghost use Rattle.answers.specs.Turn.{payloadSent, handleOf, offlineEvent, completesOf, refusedTurn, answerOf, Filling};
 use cycle::seen::Mask;
 use cycle::seen::Seen;
 use cycle::seen::Sent;
@@ -124,7 +124,7 @@ impl TurnAnswer {
     {
         let len = filled.len;
         let transmission = filled.transmission;
-        let event = fell(seen.first);
+        let event = offline_event(seen.first);
         let handle = handle_of(seen.first, address);
         let sent = seen.sent;
         let completed = completes(step, sent);
@@ -141,8 +141,8 @@ impl TurnAnswer {
 }
 
 // The event of a turn: Offline where a balance fell.
-fn fell(first: u8) -> PeripheralEvent
-    ensures { λ r. ⌜ r ≡ fellEvent first ⌝ }
+fn offline_event(first: u8) -> PeripheralEvent
+    ensures { λ r. ⌜ r ≡ offlineEvent first ⌝ }
 {
     if first == 255 {
         return PeripheralEvent::NoEvent;

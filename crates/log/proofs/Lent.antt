@@ -9,7 +9,7 @@ use lib.Seq.{take-all, take-at}
 use lib.Dec.{leb}
 use borrow.Author.Tests.{leb-true, leb-false}
 use Rattle.parts.proofs.Laws.{by-test}
-use Rattle.log.specs.Calls.{lend, back}
+use Rattle.master.specs.Pools.{lend, back}
 
 module _ (n p : ℕ) (pool : List ℕ) (e : length (lend n pool) ≡ p) where
   size : min n (length pool) ≡ p

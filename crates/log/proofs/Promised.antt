@@ -26,8 +26,8 @@ use Rattle.access.specs.Lookup.{foundIn, inputNumber, inputsSeen}
 use Rattle.master.specs.declared.unit.DpMaster.{DpMaster}
 use Rattle.valid.proofs.Balances.{marked-below}
 use Rattle.peripheral_set.specs.declared.PeripheralHandle.{PeripheralHandle}
-use Rattle.master.specs.Pools.{Pools}
-use Rattle.log.specs.Calls.{World, lend, Call, add, enter, turn, reply, reset, wish, write, hand, accepted, addStep, turnStep, replyStep, addNumber, turnNumber, replyNumber, turnPayloadAt, step}
+use Rattle.master.specs.Pools.{Pools, lend}
+use Rattle.log.specs.Calls.{World, Call, add, enter, turn, reply, reset, wish, write, hand, accepted, addStep, turnStep, replyStep, addNumber, turnNumber, replyNumber, turnPayloadAt, step}
 use Rattle.log.specs.Notes.{turnOf, slotAsked, reportedOffline}
 use Rattle.log.specs.Entries.{Entry, slotLog, Frame, frameOf, occupiedIn, Moved, reached}
 use Rattle.log.specs.Words.{dueOf, imageOf, asksData}

@@ -30,7 +30,8 @@ use Rattle.master.specs.Unit.{stateIs, balancesAre}
 use Rattle.master.specs.Receive.{openBalance, replyAt}
 use Rattle.valid.specs.Valid.{Valid, balance, occupied}
 use Rattle.valid.proofs.Balances.{marked-below, open-there}
-use Rattle.log.specs.Calls.{World, lend, back, reply, replied, replyStep, replyNumber}
+use Rattle.master.specs.Pools.{lend, back}
+use Rattle.log.specs.Calls.{World, reply, replied, replyStep, replyNumber}
 use Rattle.log.specs.Notes.{got}
 use Rattle.log.specs.Entries.{Entry, target, Place, slotLog, placeNext, placeReplied, frameOf, occupiedIn, Moved}
 use Rattle.log.specs.Promises.{frameIn}

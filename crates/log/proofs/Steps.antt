@@ -30,8 +30,8 @@ use Rattle.valid.proofs.Calls.{created-valid, enter-valid, wish-valid, reset-va
 use Rattle.valid.proofs.Turning.{turn-valid}
 use Rattle.valid.proofs.Replying.{reply-valid}
 use Rattle.valid.proofs.Adding.{add-valid}
-use Rattle.master.specs.Pools.{Pools}
-use Rattle.log.specs.Calls.{World, lend, back, lendAll, Call, add, enter, turn, reply, reset, wish, write, hand, turned, refusal, accepted, Outcome, addStep, turnStep, replyStep, doneStep, writeStep, addNumber, turnNumber, replyNumber, writeNumber, handNumber, turnPayloadAt, step}
+use Rattle.master.specs.Pools.{Pools, lend, back, lendAll}
+use Rattle.log.specs.Calls.{World, Call, add, enter, turn, reply, reset, wish, write, hand, turned, refusal, accepted, Outcome, addStep, turnStep, replyStep, doneStep, writeStep, addNumber, turnNumber, replyNumber, writeNumber, handNumber, turnPayloadAt, step}
 use Rattle.log.specs.Run.{Run, after, run, acceptedOf}
 use Rattle.log.specs.Promises.{RefusedSame, BufferSame, NoTrace, AlwaysValid}
 

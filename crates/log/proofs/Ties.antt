@@ -23,13 +23,13 @@ use Rattle.master.specs.declared.add.Added.{Added}
 use Rattle.master.specs.declared.turn.Turn.{Turn}
 use Rattle.master.specs.declared.receive.Answered.{Answered}
 use Rattle.master.specs.Unit.{stateIs}
-use Rattle.master.specs.Pools.{Pools}
+use Rattle.master.specs.Pools.{Pools, lend, back, lendAll, backAll}
 use Rattle.master.specs.Add.{Adding}
 use Rattle.master.specs.Turn.{Turned}
 use Rattle.master.specs.Receive.{Received}
 use Rattle.master.specs.Handle.{resetDone, wishDone}
 use Rattle.access.specs.Lookup.{foundIn, outputsSeen, OutputsWritten}
-use Rattle.log.specs.Calls.{World, lend, back, lendAll, backAll, add, enter, turn, reply, reset, wish, write, hand, number, added, turned, replied, unitIs, outputsAre, handNumber, step}
+use Rattle.log.specs.Calls.{World, add, enter, turn, reply, reset, wish, write, hand, number, added, turned, replied, unitIs, outputsAre, handNumber, step}
 
 module _ (w : World) where
   pub add-tied : (a : Addition) (user config : List ℕ) (lent : Lent) (out : Pools) (r : Added) → Adding (w .unit) a user config (lendAll lent (w .pools)) out r

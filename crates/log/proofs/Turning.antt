@@ -42,7 +42,7 @@ use Rattle.log.specs.Promises.{MaskEvent}
 use Rattle.payloads.specs.Request.{kindNumber}
 use Rattle.log.proofs.Visits.{kindSent, wentTo, Swung, all-visits, Lowest, Firsts, all-first, empty-bit}
 use Rattle.cycle.specs.State.{timed, closed, operatingOf, controlDue, stepOf, startOf, afterVisits, afterTurn}
-use Rattle.answers.specs.Turn.{transmissionOf, visitsTransmit, completesOf, fellEvent, handleOf}
+use Rattle.answers.specs.Turn.{transmissionOf, visitsTransmit, completesOf, offlineEvent, handleOf}
 use Rattle.master.specs.Turn.{sweepFrom, stepAt, sweptBy, unitTurned, askedIn, turnAnswer}
 use Rattle.valid.specs.Valid.{Valid, balance, occupied}
 use Rattle.log.specs.Calls.{World, turn, turned, unitIs, step}
@@ -61,20 +61,20 @@ module _ (seen : Seen) (f : Firsts slots seen) where
   not-empty : Lowest slots seen → eqb (seen .mask) 0 ≡ false
   not-empty k = ne-eqb (seen .mask) 0 (λ e. let z : bit (seen .first) (seen .mask) ≡ 0 = rw e (zero-bit (seen .first)) in omega (arith, k .own))
 
-  fell : T (isOffline (fellEvent (seen .first))) → Lowest slots seen
+  fell : T (isOffline (offlineEvent (seen .first))) → Lowest slots seen
   fell t = ⊎-elim (λ e. absurd (rw (e .0) at t)) (λ k. k) (f .either)
 
-  event-is : fellEvent (seen .first) ≡ cond (eqb (seen .mask) 0) NoEvent WentOffline
+  event-is : offlineEvent (seen .first) ≡ cond (eqb (seen .mask) 0) NoEvent WentOffline
   event-is = ⊎-elim (λ e. rw (e .0, e .1) refl) (λ k. rw (not-none k, not-empty k) refl) (f .either)
 
-  event-own : (address : ℕ) → T (isOffline (fellEvent (seen .first))) → T (bitSet (handleOf (seen .first) address .slot) (seen .mask))
+  event-own : (address : ℕ) → T (isOffline (offlineEvent (seen .first))) → T (bitSet (handleOf (seen .first) address .slot) (seen .mask))
   event-own address t = let k = fell t in rw (not-none k, k .own) tt
 
-  event-lowest : (address : ℕ) → T (isOffline (fellEvent (seen .first))) → (s : ℕ) → s < handleOf (seen .first) address .slot → T (not (bitSet s (seen .mask)))
+  event-lowest : (address : ℕ) → T (isOffline (offlineEvent (seen .first))) → (s : ℕ) → s < handleOf (seen .first) address .slot → T (not (bitSet s (seen .mask)))
   event-lowest address t s h = let k = fell t in rw (k .lower s (rw (not-none k) at h)) tt
 
   -- by event or mask bit is by mask bit: the event's slot is in the mask
-  reported-is : (address s : ℕ) → ((isOffline (fellEvent (seen .first)) && eqb s (handleOf (seen .first) address .slot)) || bitSet s (seen .mask)) ≡ bitSet s (seen .mask)
+  reported-is : (address s : ℕ) → ((isOffline (offlineEvent (seen .first)) && eqb s (handleOf (seen .first) address .slot)) || bitSet s (seen .mask)) ≡ bitSet s (seen .mask)
   reported-is address s =
       ⊎-elim (λ e. rw (e .0) refl)
       (λ k.

@@ -29,7 +29,8 @@ use Rattle.master.proofs.Checks.{reset-handle}
 use Rattle.valid.specs.Valid.{Valid, occupied}
 use Rattle.valid.proofs.Balances.{marked-below}
 use Rattle.valid.proofs.Calls.{handle-there, index-is}
-use Rattle.log.specs.Calls.{World, lend, Call, enter, reset, wish, write, hand, Answer, unitIs, doneStep}
+use Rattle.master.specs.Pools.{lend}
+use Rattle.log.specs.Calls.{World, Call, enter, reset, wish, write, hand, Answer, unitIs, doneStep}
 use Rattle.log.specs.Notes.{Note, readdressed, wished, noteIf}
 use Rattle.log.specs.Entries.{says, Entry, Frame, target, slotLog, frameOf}
 use Rattle.log.specs.Promises.{frameIn}

@@ -142,8 +142,8 @@ afterAll w (c ∷ cs) = afterAll (step w c .world) cs
 abbrev pub handleTo : ℕ → PeripheralHandle
 handleTo slot = record { slot = slot; address = 7 }
 
-abbrev pub replyOf : Telegram → List ℕ → Call
-replyOf t payload = reply 7 t payload 2 8
+abbrev pub benchReply : Telegram → List ℕ → Call
+benchReply t payload = reply 7 t payload 2 8
 
 -- ---- two balances with no set-up data and no images, over empty pools
 

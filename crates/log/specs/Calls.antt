@@ -2,8 +2,8 @@
 -- From 01, "The unit and its sizes", "Refusal numbers", "One turn", "One visit and one reply".
 use Prim.Native.Nat.{ℕ}
 use mathlib.Core.Bool.{Bool, cond}
-use mathlib.Core.List.{List, _++_}
-use lib.ListN.{length, take, drop}
+use mathlib.Core.List.{List}
+use lib.ListN.{length}
 use lib.Dec.{eqb}
 use Rattle.parts.specs.Parts.{putIn}
 use Rattle.fdl.specs.Status.{carried}
@@ -26,7 +26,7 @@ use Rattle.master.specs.declared.unit.DpMaster.{DpMaster}
 use Rattle.master.specs.declared.unit.Done.{Done}
 use Rattle.master.specs.declared.add.Addition.{Addition}
 use Rattle.master.specs.Unit.{stateIs}
-use Rattle.master.specs.Pools.{Pools, poolsOf}
+use Rattle.master.specs.Pools.{Pools, lend, afterLent, lendAll, backAll}
 use Rattle.master.specs.Add.{userOf, configOf, lengthsOf, newcomer, unitAdded, poolsAfter, refusalOf}
 use Rattle.master.specs.Turn.{Swept, stepAt, sweptBy, unitTurned, turnPayload, turnAnswer}
 use Rattle.master.specs.Receive.{openBalance, replyAt, replyAnswer, unitReplied}
@@ -39,27 +39,6 @@ use Rattle.access.specs.Lookup.{foundIn, outputNumber, writeRefusal}
 pub record World : Type 0 where
   pub unit : DpMaster
   pub pools : Pools
-
--- a call is lent the first so many bytes of an array
-abbrev pub lend : ℕ → List ℕ → List ℕ
-lend n pool = take n pool
-
--- the array afterwards: what the call left in that part, and the rest as it was
-abbrev pub back : ℕ → List ℕ → List ℕ → List ℕ
-back n out pool = out ++ drop n pool
-
--- the array after a call that does f to the part that it is lent, where it is not refused
-abbrev pub afterLent : Bool → ℕ → (List ℕ → List ℕ) → List ℕ → List ℕ
-afterLent ok n f pool = back n (cond ok (f (lend n pool)) (lend n pool)) pool
-
--- all four
-abbrev pub lendAll : Lent → Pools → Pools
-lendAll lent pools = poolsOf (lend (lent .setup) (pools .setup)) (lend (lent .inputs) (pools .inputs)) (lend (lent .outputs) (pools .outputs)) (lend (lent .diags) (pools .diags))
-
-abbrev pub backAll : Lent → Pools → Pools → Pools
-backAll lent out pools =
-    poolsOf (back (lent .setup) (out .setup) (pools .setup)) (back (lent .inputs) (out .inputs) (pools .inputs)) (back (lent .outputs) (out .outputs) (pools .outputs))
-    (back (lent .diags) (out .diags) (pools .diags))
 
 -- ---- calls and answers
 

@@ -6,17 +6,17 @@ use Rattle.fdl.specs.declared.consts.Sap.the-variants.{Absent, At}
 use Rattle.fdl.specs.declared.telegram.Telegram.the-variants.{ShortConfirmation, Data}
 use Rattle.cycle.specs.declared.state.OperatingState.the-variants.{Stop, Clear, Operate}
 use Rattle.log.specs.Calls.{Call, enter, reply, reset, wish, write, hand}
-use Rattle.log.specs.Bench.{addWith, turnAt, diagnosisReply, acknowledgement, handleTo, replyOf, addAt, smallTurn, smallReply}
+use Rattle.log.specs.Bench.{addWith, turnAt, diagnosisReply, acknowledgement, handleTo, benchReply, addAt, smallTurn, smallReply}
 
 -- ---- one life in calls, oldest first
 
 -- with an extended part of two bytes
 abbrev pub extendedReply : Call
-extendedReply = replyOf (Data (At 62) (At 60) 0) (0x08 ∷ 0x0C ∷ 0 ∷ 2 ∷ 0x12 ∷ 0x34 ∷ 0xAA ∷ 0xBB ∷ [])
+extendedReply = benchReply (Data (At 62) (At 60) 0) (0x08 ∷ 0x0C ∷ 0 ∷ 2 ∷ 0x12 ∷ 0x34 ∷ 0xAA ∷ 0xBB ∷ [])
 
 -- one that comes where parameters are to be acknowledged: it changes nothing
 abbrev pub lateReply : Call
-lateReply = replyOf (Data (At 62) (At 60) 0) (0x08 ∷ 0x0C ∷ 0 ∷ 2 ∷ 0x12 ∷ 0x34 ∷ 0xCC ∷ [])
+lateReply = benchReply (Data (At 62) (At 60) 0) (0x08 ∷ 0x0C ∷ 0 ∷ 2 ∷ 0x12 ∷ 0x34 ∷ 0xCC ∷ [])
 
 abbrev pub firstHalf : List Call
 firstHalf =
@@ -32,7 +32,7 @@ firstHalf =
     ∷ turnAt 0
     ∷ turnAt 1
     ∷ reply 8 ShortConfirmation [] 2 8
-    ∷ replyOf (Data Absent Absent 5) []
+    ∷ benchReply (Data Absent Absent 5) []
     ∷ extendedReply
     ∷ turnAt 2
     ∷ turnAt 1
@@ -53,13 +53,13 @@ abbrev pub secondHalf : List Call
 secondHalf =
     turnAt 8
     ∷ turnAt 9
-    ∷ replyOf (Data Absent Absent 10) (11 ∷ 22 ∷ [])
+    ∷ benchReply (Data Absent Absent 10) (11 ∷ 22 ∷ [])
     ∷ turnAt 10
     ∷ turnAt 11
     ∷ diagnosisReply
     ∷ turnAt 11
     ∷ turnAt 11
-    ∷ replyOf (Data Absent Absent 9) (33 ∷ 44 ∷ [])
+    ∷ benchReply (Data Absent Absent 9) (33 ∷ 44 ∷ [])
     ∷ wish (handleTo 0)
     ∷ wish (handleTo 32)
     ∷ turnAt 12

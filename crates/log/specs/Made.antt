@@ -14,8 +14,8 @@ use Rattle.fdl.specs.declared.parameters.Parameters.{Parameters}
 use Rattle.peripheral_set.specs.declared.PeripheralHandle.{PeripheralHandle}
 use Rattle.cycle.specs.declared.refusal.Lent.{Lent}
 use Rattle.cycle.specs.declared.state.OperatingState.the-variants.{Stop, Clear, Operate}
-use Rattle.master.specs.Pools.{Pools}
-use Rattle.log.specs.Calls.{Call, add, enter, turn, reply, reset, wish, write, hand, number, added, turned, replied, World, Outcome, lend, back, unitIs, outputsAre}
+use Rattle.master.specs.Pools.{Pools, lend, back}
+use Rattle.log.specs.Calls.{Call, add, enter, turn, reply, reset, wish, write, hand, number, added, turned, replied, World, Outcome, unitIs, outputsAre}
 use Rattle.log.specs.Entries.{Entry}
 use Rattle.log.specs.Run.{after}
 use Rattle.master.proofs.unit.DpMaster.new.Kinds as K·new

@@ -22,8 +22,8 @@ use Rattle.master.specs.declared.unit.DpMaster.{DpMaster}
 use Rattle.master.specs.declared.add.Addition.{Addition}
 use Rattle.access.specs.Lookup.{inputNumber}
 use Rattle.valid.specs.Valid.{Valid, Apart, balance}
-use Rattle.master.specs.Pools.{Pools}
-use Rattle.log.specs.Calls.{Call, add, turn, reply, turned, World, Outcome, accepted, refusal, lend, step}
+use Rattle.master.specs.Pools.{Pools, lend}
+use Rattle.log.specs.Calls.{Call, add, turn, reply, turned, World, Outcome, accepted, refusal, step}
 use Rattle.log.specs.Notes.{turnOf, slotGiven, slotAsked, isOffline, bitSet, reportedOffline}
 use Rattle.log.specs.Entries.{Entry, slotLog, Frame, frameOf, occupiedIn, FirstEmpty, Moved, reached}
 use Rattle.log.specs.Words.{imageOf, Due, Ready, asksData}

@@ -17,7 +17,7 @@ use Rattle.cycle.specs.declared.refusal.Lengths.{Lengths}
 use Rattle.cycle.specs.Refusal.{addressRefusal, addRows, addRefusal}
 use Rattle.master.specs.declared.unit.DpMaster.{DpMaster}
 use Rattle.master.specs.declared.add.Addition.{Addition}
-use Rattle.master.specs.Pools.{Pools, lentOf}
+use Rattle.master.specs.Pools.{Pools, poolLengths}
 use Rattle.master.specs.Add.{newcomer, roomRows, roomRefusal, refusalOf}
 use Rattle.master.specs.Handle.{resetRows, resetRefusal}
 
@@ -48,12 +48,12 @@ or-first n rest e = by-test (eqb n 0) (λ t. eqb-true n 0 t) (λ t. rw t at e)
 
 module _ (m : DpMaster) (a : Addition) (l : Lengths) (pools : Pools) where
   -- before its ranges have a place, and then by them
-  pub in-two : refusalOf m a l pools ≡ orElse (addRefusal (m .parameters) (lentOf pools) (firstEmpty (m .occupied)) (a .address) l) (roomRefusal (m .parameters) (newcomer m a l))
+  pub in-two : refusalOf m a l pools ≡ orElse (addRefusal (m .parameters) (poolLengths pools) (firstEmpty (m .occupied)) (a .address) l) (roomRefusal (m .parameters) (newcomer m a l))
   unfolding refusalOf addRefusal roomRefusal
-  in-two = both (addRows (m .parameters) (lentOf pools) (firstEmpty (m .occupied)) (a .address) l) (roomRows (m .parameters) (newcomer m a l)) refl
+  in-two = both (addRows (m .parameters) (poolLengths pools) (firstEmpty (m .occupied)) (a .address) l) (roomRows (m .parameters) (newcomer m a l)) refl
 
   module _ (z : refusalOf m a l pools ≡ 0) where
-    pub add-passed : addRefusal (m .parameters) (lentOf pools) (firstEmpty (m .occupied)) (a .address) l ≡ 0
+    pub add-passed : addRefusal (m .parameters) (poolLengths pools) (firstEmpty (m .occupied)) (a .address) l ≡ 0
     add-passed = or-first _ (roomRefusal (m .parameters) (newcomer m a l)) (sym in-two ∙ z)
 
     pub room-passed : roomRefusal (m .parameters) (newcomer m a l) ≡ 0

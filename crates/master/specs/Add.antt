@@ -20,7 +20,7 @@ use Rattle.master.specs.declared.unit.DpMaster.{DpMaster}
 use Rattle.master.specs.declared.unit.Used.{Used}
 use Rattle.master.specs.declared.add.Addition.{Addition}
 use Rattle.master.specs.declared.add.Added.{Added}
-use Rattle.master.specs.Pools.{Pools, lentOf}
+use Rattle.master.specs.Pools.{Pools, poolLengths}
 
 -- ---- what is asked for
 
@@ -86,7 +86,7 @@ roomRefusal u p = firstOf (roomRows u p)
 -- what is lent, the table, the address and the lengths, and then the ranges
 unfoldable pub refusalOf : DpMaster → Addition → Lengths → Pools → ℕ
 refusalOf m a l pools =
-    firstOf (addRows (m .parameters) (lentOf pools) (firstEmpty (m .occupied)) (a .address) l ++ roomRows (m .parameters) (newcomer m a l))
+    firstOf (addRows (m .parameters) (poolLengths pools) (firstEmpty (m .occupied)) (a .address) l ++ roomRows (m .parameters) (newcomer m a l))
 
 -- ---- what is left
 

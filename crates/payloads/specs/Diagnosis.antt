@@ -24,13 +24,13 @@ taken Token n = false
 taken Request n = false
 
 -- the weight of each flag that the code names
-abbrev pub flagNumber : DiagnosticFlags → ℕ
-flagNumber StationNotReady = 0x0002
-flagNumber ConfigurationFault = 0x0004
-flagNumber ExtDiag = 0x0008
-flagNumber ParameterFault = 0x0040
-flagNumber ParameterRequired = 0x0100
-flagNumber PermanentBit = 0x0400
+abbrev pub flagWeight : DiagnosticFlags → ℕ
+flagWeight StationNotReady = 0x0002
+flagWeight ConfigurationFault = 0x0004
+flagWeight ExtDiag = 0x0008
+flagWeight ParameterFault = 0x0040
+flagWeight ParameterRequired = 0x0100
+flagWeight PermanentBit = 0x0400
 
 -- the flag of that weight is set
 abbrev pub flag : ℕ → ℕ → Bool

@@ -2,7 +2,7 @@
 ghost use mathlib.Core.Path.{_≡_};
 ghost use Prim.Native.Nat.{_<_};
 ghost use Rattle.parts.specs.Parts.{putIn};
-ghost use Rattle.payloads.specs.Diagnosis.{noDiagnosis, taken, flag, flagNumber, diagnosisOf};
+ghost use Rattle.payloads.specs.Diagnosis.{noDiagnosis, taken, flag, flagWeight, diagnosisOf};
 use fdl::telegram::Telegram;
 
 // The last diagnosis; a master of 255 is none.
@@ -39,7 +39,7 @@ pub enum DiagnosticFlags {
 
 impl DiagnosticFlags {
     pub fn number(self) -> u16
-        ensures { λ r. ⌜ (r ≡ flagNumber self) × (0 < r) ⌝ }
+        ensures { λ r. ⌜ (r ≡ flagWeight self) × (0 < r) ⌝ }
     {
         match self {
             DiagnosticFlags::StationNotReady => 0x0002,
@@ -53,7 +53,7 @@ impl DiagnosticFlags {
 
     // Whether it is set. By division: a mask has no laws to prove it by.
     pub fn is_in(self, flags: u16) -> bool
-        ensures { λ r. ⌜ r ≡ flag (flagNumber self) flags ⌝ }
+        ensures { λ r. ⌜ r ≡ flag (flagWeight self) flags ⌝ }
     {
         flags / self.number() % 2 == 1
     }

@@ -26,7 +26,7 @@ use Rattle.station.specs.Heard.{diagnosisHeard, diagnosisMissed, acknowledgemen
 use Rattle.peripheral.specs.declared.record.Peripheral.{Peripheral}
 use Rattle.peripheral.specs.declared.response.Extended.{Extended}
 use Rattle.peripheral.specs.declared.response.Keeps.{Keeps}
-use Rattle.peripheral.specs.declared.response.Keeps.the-variants.{Nothing, Image, Part}
+use Rattle.peripheral.specs.declared.response.Keeps.the-variants.{Neither, Image, Part}
 use Rattle.peripheral.specs.declared.response.Reply.{Reply}
 use Rattle.peripheral.specs.Record.{stationIs}
 
@@ -67,7 +67,7 @@ diagnosisAnswer t p payload diags =
     cond (taken t (length payload)) (diagnosisHeard (stateOf (p .station .state)) (stationDiagnosed p payload diags)) (diagnosisMissed (stateOf (p .station .state)) (p .station))
 
 unfoldable pub diagnosisKeeps : Telegram → Peripheral → List ℕ → ℕ → Keeps
-diagnosisKeeps t p payload diags = cond (taken t (length payload) && payloadPart p payload diags .fits) Part Nothing
+diagnosisKeeps t p payload diags = cond (taken t (length payload) && payloadPart p payload diags .fits) Part Neither
 
 -- what the station makes of it
 unfoldable pub answerTo : Request → Telegram → Peripheral → List ℕ → ℕ → ℕ → Heard
@@ -79,9 +79,9 @@ answerTo Data t p payload inputs diags = dataHeard t (fitsImage t p (length payl
 -- what of its payload is kept, with this event
 unfoldable pub keepsOf : Request → Telegram → Peripheral → List ℕ → ℕ → PeripheralEvent → Keeps
 keepsOf Diagnosis t p payload diags e = diagnosisKeeps t p payload diags
-keepsOf Parameters t p payload diags e = Nothing
-keepsOf Configuration t p payload diags e = Nothing
-keepsOf Data t p payload diags e = cond (isExchanged e) Image Nothing
+keepsOf Parameters t p payload diags e = Neither
+keepsOf Configuration t p payload diags e = Neither
+keepsOf Data t p payload diags e = cond (isExchanged e) Image Neither
 
 abbrev pub withHeard : Peripheral → Heard → Keeps → Reply
 withHeard p h k = record { peripheral = stationIs (h .station) p; event = h .event; keeps = k }
@@ -105,12 +105,12 @@ abbrev pub withPart : Peripheral → List ℕ → List ℕ → List ℕ
 withPart p payload diags = putIn (p .ranges .diag) (p .ranges .«diag_room») (drop 6 payload) diags
 
 abbrev pub keepsImage : Keeps → Bool
-keepsImage Nothing = false
+keepsImage Neither = false
 keepsImage Image = true
 keepsImage Part = false
 
 abbrev pub keepsPart : Keeps → Bool
-keepsPart Nothing = false
+keepsPart Neither = false
 keepsPart Image = false
 keepsPart Part = true
 

@@ -16,7 +16,7 @@ use station::state::PeripheralState;
 
 // What of a payload is kept: the input image, or the extended part of a diagnosis.
 pub enum Keeps {
-    Nothing,
+    Neither,
     Image,
     Part,
 }
@@ -36,24 +36,24 @@ pub struct Reply {
 
 // The extended part where it fits.
 fn part_if(fits: bool) -> Keeps
-    ensures { λ r. ⌜ r ≡ cond fits Keeps.Part Keeps.Nothing ⌝ }
+    ensures { λ r. ⌜ r ≡ cond fits Keeps.Part Keeps.Neither ⌝ }
 {
-    if fits { Keeps::Part } else { Keeps::Nothing }
+    if fits { Keeps::Part } else { Keeps::Neither }
 }
 
 // The image with DataExchanged.
 fn image_if(event: PeripheralEvent) -> Keeps
-    ensures { λ r. ⌜ r ≡ cond (isExchanged event) Keeps.Image Keeps.Nothing ⌝ }
+    ensures { λ r. ⌜ r ≡ cond (isExchanged event) Keeps.Image Keeps.Neither ⌝ }
 {
     match event {
-        PeripheralEvent::NoEvent => Keeps::Nothing,
-        PeripheralEvent::Online => Keeps::Nothing,
-        PeripheralEvent::Configured => Keeps::Nothing,
-        PeripheralEvent::ConfigError => Keeps::Nothing,
-        PeripheralEvent::ParameterError => Keeps::Nothing,
+        PeripheralEvent::NoEvent => Keeps::Neither,
+        PeripheralEvent::Online => Keeps::Neither,
+        PeripheralEvent::Configured => Keeps::Neither,
+        PeripheralEvent::ConfigError => Keeps::Neither,
+        PeripheralEvent::ParameterError => Keeps::Neither,
         PeripheralEvent::DataExchanged => Keeps::Image,
-        PeripheralEvent::Diagnostics => Keeps::Nothing,
-        PeripheralEvent::Offline => Keeps::Nothing,
+        PeripheralEvent::Diagnostics => Keeps::Neither,
+        PeripheralEvent::Offline => Keeps::Neither,
     }
 }
 
@@ -127,7 +127,7 @@ impl Peripheral {
             let e = self.extended(d.flags, payload.len(), diags);
             return self.with_heard(s.diagnosis_heard(d, e.len), part_if(e.fits));
         }
-        self.with_heard(s.diagnosis_missed(), Keeps::Nothing)
+        self.with_heard(s.diagnosis_missed(), Keeps::Neither)
     }
 
     // The reply to the open request, with the payload that came with it; the lent pools are so long.
@@ -150,14 +150,14 @@ impl Peripheral {
                     telegram.is_short_confirmation(),
                     PeripheralState::WaitForConfig,
                 );
-                self.with_heard(h, Keeps::Nothing)
+                self.with_heard(h, Keeps::Neither)
             }
             Request::Configuration => {
                 let h = s.acknowledgement_heard(
                     telegram.is_short_confirmation(),
                     PeripheralState::ValidateConfig,
                 );
-                self.with_heard(h, Keeps::Nothing)
+                self.with_heard(h, Keeps::Neither)
             }
             Request::Data => {
                 let h = s.data_heard(telegram, self.fits_image(telegram, payload.len(), inputs));
@@ -191,7 +191,7 @@ impl Peripheral {
         ensures { λ _. ⌜ Kept keeps self (now (payload .entry)) (now (inputs .entry)) (now (diags .entry)) (now (inputs .exit)) (now (diags .exit)) ⌝ }
     {
         match keeps {
-            Keeps::Nothing => {}
+            Keeps::Neither => {}
             Keeps::Image => self.keep_image(payload, inputs),
             Keeps::Part => self.keep_part(payload, diags),
         }

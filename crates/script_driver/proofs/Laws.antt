@@ -19,7 +19,8 @@ use Rattle.peripheral_set.specs.declared.Entry.{Entry}
 use Rattle.peripheral_set.specs.Marks.{slots, listedFrom, listed}
 use Rattle.master.specs.declared.unit.DpMaster.{DpMaster}
 use Rattle.access.specs.Lookup.{entryAt}
-use Rattle.script_driver.specs.Arrays.{shortOf, lend, behind, upTo, putEntry, putEntries}
+use Rattle.master.specs.Pools.{lend}
+use Rattle.script_driver.specs.Arrays.{shortOf, pastLent, tabulated, putEntry, putEntries}
 use Rattle.script_driver.specs.Pieces.{newlineIn}
 
 -- ---- a lent front
@@ -53,7 +54,7 @@ lent-front n k old left e h =
     ∙ ap (take n) (append-nil left)
     ∙ take-all n left (omega (arith, leb-false n (length old) t)))
 
-pub lent-behind : (n k : ℕ) (old left : List ℕ) → k ≡ shortOf n (length old) → length left ≡ length (take k old) → behind n (left ++ drop k old) ≡ behind n old
+pub lent-behind : (n k : ℕ) (old left : List ℕ) → k ≡ shortOf n (length old) → length left ≡ length (take k old) → pastLent n (left ++ drop k old) ≡ pastLent n old
 lent-behind n k old left e h =
     let q : length left ≡ k = h ∙ length-take-le k old (omega (arith, short-le n (length old))) in
     by-test (leb n (length old)) (λ t. let w : k ≡ n = e ∙ rw t refl in drop-at left (drop k old) n (q ∙ w) ∙ ap (λ (i : ℕ). drop i old) w)
@@ -72,26 +73,26 @@ moved4 P {a} {a′} {b} {b′} {c} {c′} {d} {d′} p q r s h = moved2 (λ x y.
 
 -- ---- a list that a loop fills by a rule
 
-length-upTo : (f : ℕ → ℕ) (n : ℕ) → length (upTo f n) ≡ n
-unfolding upTo
+length-upTo : (f : ℕ → ℕ) (n : ℕ) → length (tabulated f n) ≡ n
+unfolding tabulated
 length-upTo f zero = refl
-length-upTo f (suc n) = length-append (upTo f n) (f n ∷ []) ∙ (let e = length-upTo f n in omega arith)
+length-upTo f (suc n) = length-append (tabulated f n) (f n ∷ []) ∙ (let e = length-upTo f n in omega arith)
 
-pub upTo-none : (f : ℕ → ℕ) (d : List ℕ) → d ≡ upTo f 0 ++ drop 0 d
-unfolding upTo
+pub upTo-none : (f : ℕ → ℕ) (d : List ℕ) → d ≡ tabulated f 0 ++ drop 0 d
+unfolding tabulated
 upTo-none f d = refl
 
-pub upTo-more : (f : ℕ → ℕ) (i : ℕ) (d : List ℕ) → i < length d → set (upTo f i ++ drop i d) i (f i) ≡ upTo f (i + 1) ++ drop (i + 1) d
-unfolding upTo
+pub upTo-more : (f : ℕ → ℕ) (i : ℕ) (d : List ℕ) → i < length d → set (tabulated f i ++ drop i d) i (f i) ≡ tabulated f (i + 1) ++ drop (i + 1) d
+unfolding tabulated
 upTo-more f i d h =
-    ap (λ (x : List ℕ). set (upTo f i ++ x) i (f i)) (drop-cons d i 0 h)
-    ∙ set-at (upTo f i) (getD d i 0) (drop (suc i) d) (f i) i (length-upTo f i)
-    ∙ sym (append-snoc (upTo f i) (f i) (drop (suc i) d))
-    ∙ ap (λ (k : ℕ). upTo f k ++ drop k d) (sym (add-one i))
+    ap (λ (x : List ℕ). set (tabulated f i ++ x) i (f i)) (drop-cons d i 0 h)
+    ∙ set-at (tabulated f i) (getD d i 0) (drop (suc i) d) (f i) i (length-upTo f i)
+    ∙ sym (append-snoc (tabulated f i) (f i) (drop (suc i) d))
+    ∙ ap (λ (k : ℕ). tabulated f k ++ drop k d) (sym (add-one i))
 
-pub upTo-all : (f : ℕ → ℕ) (i : ℕ) (d : List ℕ) → i ≡ length d → upTo f i ++ drop i d ≡ upTo f (length d)
+pub upTo-all : (f : ℕ → ℕ) (i : ℕ) (d : List ℕ) → i ≡ length d → tabulated f i ++ drop i d ≡ tabulated f (length d)
 upTo-all f i d e =
-    ap (λ (x : List ℕ). upTo f i ++ x) (drop-of-length-le d {i = i} (omega arith)) ∙ append-nil (upTo f i) ∙ ap (upTo f) e
+    ap (λ (x : List ℕ). tabulated f i ++ x) (drop-of-length-le d {i = i} (omega arith)) ∙ append-nil (tabulated f i) ∙ ap (tabulated f) e
 
 -- ---- the listing, one entry a turn
 

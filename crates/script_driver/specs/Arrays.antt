@@ -4,7 +4,7 @@ use mathlib.Core.Path.{_≡_}
 use mathlib.Core.Bool.{cond}
 use Prim.Native.Nat.{ℕ, zero, suc, _+_, _*_, _/_, _%_}
 use mathlib.Core.List.{List, [], _∷_, _++_}
-use lib.ListN.{length, take, drop, replicate}
+use lib.ListN.{length, drop, replicate}
 use lib.Seq.{sets}
 use lib.Dec.{eqb, leb, ltb}
 use Rattle.parts.specs.Parts.{View}
@@ -12,13 +12,11 @@ use Rattle.script_fields.specs.Write.{flagNumber, sumOf}
 use Rattle.peripheral_set.specs.declared.Entry.{Entry}
 use Rattle.peripheral_set.specs.Marks.{listed}
 use Rattle.master.specs.declared.unit.DpMaster.{DpMaster}
+use Rattle.master.specs.Pools.{lend}
 use Rattle.access.specs.Lookup.{entryAt}
 use Rattle.script_dump.specs.declared.Sums.{Sums}
 
--- a call is lent the first so many bytes of an array, and no more than it has
-abbrev pub lend : ℕ → List ℕ → List ℕ
-lend n pool = take n pool
-
+-- what a call is lent of an array: its first so many bytes, and no more than it has
 abbrev pub lentView : ℕ → List ℕ → View
 lentView n pool = record { start = 0; bytes = lend n pool }
 
@@ -26,24 +24,24 @@ abbrev pub shortOf : ℕ → ℕ → ℕ
 shortOf n len = cond (leb n len) n len
 
 -- what stands behind them
-abbrev pub behind : ℕ → List ℕ → List ℕ
-behind n pool = drop n pool
+abbrev pub pastLent : ℕ → List ℕ → List ℕ
+pastLent n pool = drop n pool
 
 -- P: all bytes of an array become b
 abbrev pub filled : ℕ → List ℕ → List ℕ
 filled b pool = replicate (length pool) b
 
 -- what a rule gives for the first n indices
-unfoldable pub upTo : (ℕ → ℕ) → ℕ → List ℕ
-upTo f zero = []
-upTo f (suc n) = upTo f n ++ (f n ∷ [])
+unfoldable pub tabulated : (ℕ → ℕ) → ℕ → List ℕ
+tabulated f zero = []
+tabulated f (suc n) = tabulated f n ++ (f n ∷ [])
 
 -- F: all entries of the list become (b, b, b mod 2)
 abbrev pub entryByte : ℕ → ℕ → ℕ
 entryByte b i = cond (eqb (i % 3) 2) (b % 2) b
 
 abbrev pub filledEntries : ℕ → List ℕ → List ℕ
-filledEntries b list = upTo (entryByte b) (length list)
+filledEntries b list = tabulated (entryByte b) (length list)
 
 -- H: entry k of the list is three bytes: slot, address, running; what has no room is left out
 unfoldable pub putEntry : ℕ → Entry → List ℕ → List ℕ

@@ -14,14 +14,14 @@ use Rattle.master.specs.declared.add.Addition.{Addition}
 use Rattle.master.specs.declared.add.Added.{Added}
 use Rattle.master.specs.declared.turn.Turn.{Turn}
 use Rattle.master.specs.declared.receive.Answered.{Answered}
-use Rattle.master.specs.Pools.{poolsOf}
+use Rattle.master.specs.Pools.{poolsOf, lend}
 use Rattle.master.specs.Add.{Adding}
 use Rattle.master.specs.Turn.{Turned}
 use Rattle.master.specs.Receive.{Received}
 use Rattle.access.specs.Lookup.{OutputsWritten}
 use Rattle.script_driver.specs.declared.run.Run.{Run}
 use Rattle.script_driver.specs.declared.calls.Shown.{Shown}
-use Rattle.script_driver.specs.Arrays.{lend, behind, filled, filledEntries, putEntries}
+use Rattle.script_driver.specs.Arrays.{pastLent, filled, filledEntries, putEntries}
 
 -- P
 pub record PoolsFilled (b : ℕ) (setup inputs outputs diags outSetup outInputs outOutputs outDiags : List ℕ) : Type 0 where
@@ -36,34 +36,34 @@ pub record PayloadFilled (b : ℕ) (payload list outPayload outList : List ℕ) 
   pub entries : outList ≡ filledEntries b list
 
 -- what stands behind the lent part of an array is as it was
-abbrev pub Kept : ℕ → List ℕ → List ℕ → Type 0
-Kept n pool out = behind n out ≡ behind n pool
+abbrev pub RunKept : ℕ → List ℕ → List ℕ → Type 0
+RunKept n pool out = pastLent n out ≡ pastLent n pool
 
 -- A: s, i, q, d
 pub record LentAdd (run : Run) (a : Addition) (user config setup inputs outputs diags outSetup outInputs outOutputs outDiags : List ℕ) (r : Added) : Type 0 where
   pub call : Adding (run .unit) a user config
       (poolsOf (lend (run .lent .setup) setup) (lend (run .lent .inputs) inputs) (lend (run .lent .outputs) outputs) (lend (run .lent .diags) diags))
       (poolsOf (lend (run .lent .setup) outSetup) (lend (run .lent .inputs) outInputs) (lend (run .lent .outputs) outOutputs) (lend (run .lent .diags) outDiags)) r
-  pub setupPool : Kept (run .lent .setup) setup outSetup
-  pub inputPool : Kept (run .lent .inputs) inputs outInputs
-  pub outputPool : Kept (run .lent .outputs) outputs outOutputs
-  pub diagPool : Kept (run .lent .diags) diags outDiags
+  pub setupPool : RunKept (run .lent .setup) setup outSetup
+  pub inputPool : RunKept (run .lent .inputs) inputs outInputs
+  pub outputPool : RunKept (run .lent .outputs) outputs outOutputs
+  pub diagPool : RunKept (run .lent .diags) diags outDiags
 
 -- T: s, q, payload
 pub record LentTurn (run : Run) (time : ℕ) (high : Bool) (setup outputs payload out : List ℕ) (r : Turn) : Type 0 where
   pub call : Turned (run .unit) time high (lend (run .lent .setup) setup) (lend (run .lent .outputs) outputs) (lend (run .lent .payload) payload) (lend (run .lent .payload) out) r
-  pub payloadArray : Kept (run .lent .payload) payload out
+  pub payloadArray : RunKept (run .lent .payload) payload out
 
 -- R: i, d
 pub record LentReply (run : Run) (address : ℕ) (t : Telegram) (payload inputs diags outInputs outDiags : List ℕ) (r : Answered) : Type 0 where
   pub call : Received (run .unit) address t payload (lend (run .lent .inputs) inputs) (lend (run .lent .diags) diags) (lend (run .lent .inputs) outInputs) (lend (run .lent .diags) outDiags) r
-  pub inputPool : Kept (run .lent .inputs) inputs outInputs
-  pub diagPool : Kept (run .lent .diags) diags outDiags
+  pub inputPool : RunKept (run .lent .inputs) inputs outInputs
+  pub diagPool : RunKept (run .lent .diags) diags outDiags
 
 -- W: q
 pub record LentWrite (run : Run) (h : PeripheralHandle) (bytes outputs out : List ℕ) (r : ℕ) : Type 0 where
   pub call : OutputsWritten (run .unit) h bytes (lend (run .lent .outputs) outputs) (lend (run .lent .outputs) out) r
-  pub outputPool : Kept (run .lent .outputs) outputs out
+  pub outputPool : RunKept (run .lent .outputs) outputs out
 
 -- H: a lent list under 32 entries is refused as 2, and nothing is listed
 abbrev pub listingOf : Bool → List ℕ → Shown

@@ -13,16 +13,16 @@ use Rattle.script_driver.specs.declared.run.Run.{Run}
 use Rattle.script_driver.specs.declared.run.Made.{Made}
 
 -- the lent lengths that N sets: the four pool lengths of the unit's record, payload 255, list 32
-abbrev pub lentOf : Parameters → Lent
-lentOf u = record { setup = u .«setup_pool»; inputs = u .«input_pool»; outputs = u .«output_pool»; diags = u .«diag_pool»; payload = 255; list = 32 }
+abbrev pub runLent : Parameters → Lent
+runLent u = record { setup = u .«setup_pool»; inputs = u .«input_pool»; outputs = u .«output_pool»; diags = u .«diag_pool»; payload = 255; list = 32 }
 
 -- a unit, and those lent lengths
 abbrev pub runWith : Bool → DpMaster → Run
-runWith made m = record { unit = m; made = made; own = lentOf (m .parameters); lent = lentOf (m .parameters) }
+runWith made m = record { unit = m; made = made; own = runLent (m .parameters); lent = runLent (m .parameters) }
 
 -- before the first N: no unit was made, and what stands in its place is never seen
 abbrev pub nothingMade : Run
-nothingMade = record { unit = createdOf lowest .master; made = false; own = lentOf lowest; lent = lentOf lowest }
+nothingMade = record { unit = createdOf lowest .master; made = false; own = runLent lowest; lent = runLent lowest }
 
 -- N: a new unit, also where creation is refused
 abbrev pub madeOf : Parameters → Made

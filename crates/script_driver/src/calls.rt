@@ -2,7 +2,8 @@
 ghost use mathlib.Core.Path.{_≡_};
 ghost use Rattle.parts.specs.Parts.{Itself};
 ghost use Rattle.access.specs.Lookup.{foundIn, inputNumber, outputNumber, diagNumber, inputsSeen, outputsSeen, extendedSeen, lastOf};
-ghost use Rattle.script_driver.specs.Arrays.{lend, filled};
+ghost use Rattle.master.specs.Pools.{lend};
+ghost use Rattle.script_driver.specs.Arrays.{filled};
 ghost use Rattle.script_driver.specs.Calls.{PoolsFilled, PayloadFilled, LentAdd, LentTurn, LentReply, LentWrite, ListingDone};
 use crate::arrays::fill;
 use crate::arrays::fill_list;

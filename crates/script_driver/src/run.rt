@@ -1,6 +1,6 @@
 // The unit and the lent lengths between two lines.
 ghost use mathlib.Core.Path.{_≡_};
-ghost use Rattle.script_driver.specs.Run.{lentOf, nothingMade, madeOf, lendIs, afterCall, onlyNew, callMade};
+ghost use Rattle.script_driver.specs.Run.{runLent, nothingMade, madeOf, lendIs, afterCall, onlyNew, callMade};
 use fdl::parameters::Parameters;
 use master::unit::DpMaster;
 use script_lines::Call;
@@ -22,7 +22,7 @@ pub struct Made {
 
 // The lent lengths of a new unit: the pools of its record, a payload of 255 bytes and 32 entries.
 fn lent_of(u: Parameters) -> Lent
-    ensures { λ r. ⌜ r ≡ lentOf u ⌝ }
+    ensures { λ r. ⌜ r ≡ runLent u ⌝ }
 {
     Lent {
         setup: u.setup_pool,

@@ -15,31 +15,31 @@ use Rattle.script_lines.specs.Fields.{behind, Values, numbersAt, ifEnds}
 abbrev pub handleFields : List ℕ → Values
 handleFields s = numbersAt (255 ∷ 255 ∷ []) s behind
 
-abbrev pub handleOf : List ℕ → PeripheralHandle
-handleOf s = record { slot = getD (handleFields s .values) 0 0; address = getD (handleFields s .values) 1 0 }
+abbrev pub handleRead : List ℕ → PeripheralHandle
+handleRead s = record { slot = getD (handleFields s .values) 0 0; address = getD (handleFields s .values) 1 0 }
 
 abbrev pub heldOf : List ℕ → Held
-heldOf s = record { handle = handleOf s; next = handleFields s .next }
+heldOf s = record { handle = handleRead s; next = handleFields s .next }
 
 unfoldable pub resetCall : List ℕ → Call
 resetCall s =
-    ifEnds s (numberAt 255 s (handleFields s .next) .next) (Reset (handleOf s) (numberAt 255 s (handleFields s .next) .value))
+    ifEnds s (numberAt 255 s (handleFields s .next) .next) (Reset (handleRead s) (numberAt 255 s (handleFields s .next) .value))
 
 unfoldable pub writeCall : List ℕ → Call
-writeCall s = ifEnds s (bytesAt s (handleFields s .next) .next) (Write (handleOf s) (bytesAt s (handleFields s .next) .len))
+writeCall s = ifEnds s (bytesAt s (handleFields s .next) .next) (Write (handleRead s) (bytesAt s (handleFields s .next) .len))
 
 pub record WriteRead (s a a′ : List ℕ) (r : Call) : Type 0 where
   pub answer : r ≡ writeCall s
   pub first : a′ ≡ front (pairsAt s (handleFields s .next)) a
 
 unfoldable pub wishCall : List ℕ → Call
-wishCall s = ifEnds s (handleFields s .next) (Wish (handleOf s))
+wishCall s = ifEnds s (handleFields s .next) (Wish (handleRead s))
 
 unfoldable pub inputsCall : List ℕ → Call
-inputsCall s = ifEnds s (handleFields s .next) (Inputs (handleOf s))
+inputsCall s = ifEnds s (handleFields s .next) (Inputs (handleRead s))
 
 unfoldable pub outputsCall : List ℕ → Call
-outputsCall s = ifEnds s (handleFields s .next) (Outputs (handleOf s))
+outputsCall s = ifEnds s (handleFields s .next) (Outputs (handleRead s))
 
 unfoldable pub diagnosisCall : List ℕ → Call
-diagnosisCall s = ifEnds s (handleFields s .next) (Diagnosis (handleOf s))
+diagnosisCall s = ifEnds s (handleFields s .next) (Diagnosis (handleRead s))

@@ -37,14 +37,14 @@ unfoldable pub isBare : ℕ → ℕ → ℕ → ℕ → Bool
 isBare dsap ssap status len = eqb dsap 255 && (eqb ssap 255 && (eqb status 0 && eqb len 0))
 
 -- kind 0 short confirmation, 1 data, 2 token, 3 request telegram
-unfoldable pub replyOf : ℕ → ℕ → ℕ → ℕ → ℕ → ℕ → Call
-replyOf address kind dsap ssap status len =
+unfoldable pub replyRead : ℕ → ℕ → ℕ → ℕ → ℕ → ℕ → Call
+replyRead address kind dsap ssap status len =
     cond (eqb kind 0) (cond (isBare dsap ssap status len) (Reply address ShortConfirmation len) Unknown)
     (cond (eqb kind 1) (Reply address (Data (sapOf dsap) (sapOf ssap) status) len)
     (cond (eqb kind 2) (cond (isBare dsap ssap status len) (Reply address Token len) Unknown) (Reply address Request len)))
 
 abbrev pub replyOfFields : List ℕ → ℕ → Call
-replyOfFields v len = replyOf (getD v 0 0) (getD v 1 0) (getD v 2 0) (getD v 3 0) (getD v 4 0) len
+replyOfFields v len = replyRead (getD v 0 0) (getD v 1 0) (getD v 2 0) (getD v 3 0) (getD v 4 0) len
 
 unfoldable pub replyCall : List ℕ → Call
 replyCall s = ifEnds s (bytesAt s (replyFields s .next) .next) (replyOfFields (replyFields s .values) (bytesAt s (replyFields s .next) .len))

@@ -3,7 +3,7 @@ ghost use mathlib.Core.Path.{_≡_};
 ghost use Rattle.script_lines.specs.Fields.{ifEnds};
 ghost use Rattle.script_lines.specs.Making.{newCall, lendCall, poolsCall, payloadCall};
 ghost use Rattle.script_lines.specs.Adding.{stemAt, lengthsAt, additionOf, AddRead};
-ghost use Rattle.script_lines.specs.Running.{stateCall, turnCall, isBare, replyOf, ReplyRead};
+ghost use Rattle.script_lines.specs.Running.{stateCall, turnCall, isBare, replyRead, ReplyRead};
 ghost use Rattle.script_lines.specs.Handles.{heldOf, resetCall, WriteRead, wishCall, inputsCall, outputsCall, diagnosisCall};
 ghost use Rattle.script_lines.specs.Call.{aloneCall, CallRead};
 use cycle::state::OperatingState;
@@ -338,7 +338,7 @@ fn reply(s: &[u8], a: &mut [u8; 255]) -> Call
 }
 
 fn reply_of(address: u8, kind: u8, dsap: u8, ssap: u8, status: u8, len: usize) -> Call
-    ensures { λ r. ⌜ r ≡ replyOf address kind dsap ssap status len ⌝ }
+    ensures { λ r. ⌜ r ≡ replyRead address kind dsap ssap status len ⌝ }
 {
     let bare = is_bare(dsap, ssap, status, len);
     match kind {

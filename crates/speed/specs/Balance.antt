@@ -56,22 +56,22 @@ balanceAdded address =
 abbrev pub silent : Answer
 silent = record { answers = false; address = 0; slot = 0; «data» = false; telegram = ShortConfirmation }
 
-abbrev pub said : ℕ → ℕ → Bool → Telegram → Answer
-said address slot carries t = record { answers = true; address = address; slot = slot; «data» = carries; telegram = t }
+abbrev pub balanceSays : ℕ → ℕ → Bool → Telegram → Answer
+balanceSays address slot carries t = record { answers = true; address = address; slot = slot; «data» = carries; telegram = t }
 
 -- to a diagnosis request data with DSAP 62, SSAP 60; to parameters and configuration a short confirmation; to data a reply with no SAPs
 abbrev pub saidTo : Request → ℕ → ℕ → Answer
-saidTo Diagnosis address slot = said address slot false (DataReply (At 62) (At 60) 8)
-saidTo SetUp address slot = said address slot false ShortConfirmation
-saidTo Configuration address slot = said address slot false ShortConfirmation
-saidTo Data address slot = said address slot true (DataReply Absent Absent 8)
+saidTo Diagnosis address slot = balanceSays address slot false (DataReply (At 62) (At 60) 8)
+saidTo SetUp address slot = balanceSays address slot false ShortConfirmation
+saidTo Configuration address slot = balanceSays address slot false ShortConfirmation
+saidTo Data address slot = balanceSays address slot true (DataReply Absent Absent 8)
 
 -- a request is answered by every balance, or only by the one in slot 0
 abbrev pub saidFrom : Bool → Request → ℕ → ℕ → Answer
 saidFrom all kind address slot = cond all (saidTo kind address slot) (cond (eqb slot 0) (saidTo kind address slot) silent)
 
 -- what was sent
-abbrev pub answerTo : Bool → Transmission → Answer
-answerTo all Nothing = silent
-answerTo all (Control h) = silent
-answerTo all (Asked slot kind h) = saidFrom all kind (h .da) slot
+abbrev pub balanceAnswer : Bool → Transmission → Answer
+balanceAnswer all Nothing = silent
+balanceAnswer all (Control h) = silent
+balanceAnswer all (Asked slot kind h) = saidFrom all kind (h .da) slot

@@ -13,14 +13,14 @@ use Rattle.answers.specs.declared.reply_answer.ReplyAnswer.{ReplyAnswer}
 use Rattle.script_fields.specs.Write.{flagNumber, sumFrom}
 
 -- what was sent, the slot that it was sent to, and the payload
-abbrev pub headerNumbers : DataTelegramHeader → ℕ → List ℕ → List ℕ
-headerNumbers h to payload =
+abbrev pub headerFields : DataTelegramHeader → ℕ → List ℕ → List ℕ
+headerFields h to payload =
     1 ∷ h .da ∷ h .sa ∷ sapNumber (h .dsap) ∷ sapNumber (h .ssap) ∷ requestNumber (h .req) ∷ bitNumber (h .fcb) ∷ to ∷ payload
 
-abbrev pub sentNumbers : Transmission → List ℕ → List ℕ
-sentNumbers Nothing payload = 0 ∷ []
-sentNumbers (Control h) payload = headerNumbers h 255 payload
-sentNumbers (Request slot kind h) payload = headerNumbers h slot payload
+abbrev pub sentFields : Transmission → List ℕ → List ℕ
+sentFields Nothing payload = 0 ∷ []
+sentFields (Control h) payload = headerFields h 255 payload
+sentFields (Request slot kind h) payload = headerFields h slot payload
 
 -- a turn: seven numbers, and where something was sent the seven behind them and each byte of the payload
 unfoldable pub turnNumbers : TurnAnswer → List ℕ → List ℕ
@@ -31,7 +31,7 @@ turnNumbers a buf =
     ∷ eventNumber (a .event)
     ∷ a .handle .slot
     ∷ (a .len % 4294967296)
-    ∷ sentNumbers (a .transmission) (part 0 (a .len) buf)
+    ∷ sentFields (a .transmission) (part 0 (a .len) buf)
 
 -- a reply: four numbers
 unfoldable pub replyNumbers : ReplyAnswer → List ℕ

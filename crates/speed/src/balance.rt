@@ -1,6 +1,6 @@
 // The balances of the bench: how each is set up, and what it answers.
 ghost use mathlib.Core.Path.{_≡_};
-ghost use Rattle.speed.specs.Balance.{unitParameters, balanceAdded, silent, said, saidTo, saidFrom, answerTo};
+ghost use Rattle.speed.specs.Balance.{unitParameters, balanceAdded, silent, balanceSays, saidTo, saidFrom, balanceAnswer};
 use answers::turn::Transmission;
 use fdl::consts::Sap;
 use fdl::parameters::Parameters;
@@ -73,7 +73,7 @@ fn silence() -> Answer
 }
 
 fn told(address: u8, slot: u8, data: bool, telegram: Telegram) -> Answer
-    ensures { λ r. ⌜ r ≡ said address slot «data» telegram ⌝ }
+    ensures { λ r. ⌜ r ≡ balanceSays address slot «data» telegram ⌝ }
 {
     Answer {
         answers: true,
@@ -125,7 +125,7 @@ fn told_from(all: bool, kind: Request, address: u8, slot: u8) -> Answer
 
 // To what was sent; in the second mode only slot 0 answers.
 pub fn told_by(all: bool, t: Transmission) -> Answer
-    ensures { λ r. ⌜ r ≡ answerTo all t ⌝ }
+    ensures { λ r. ⌜ r ≡ balanceAnswer all t ⌝ }
 {
     match t {
         Transmission::Nothing => silence(),

@@ -2,7 +2,7 @@
 ghost use mathlib.Core.Path.{_≡_};
 ghost use Prim.Native.Nat.{_%_};
 ghost use Rattle.script_fields.specs.Write.{flagNumber, sumStep};
-ghost use Rattle.speed.specs.Total.{headerNumbers, sentNumbers, turnNumbers, replyNumbers, summed};
+ghost use Rattle.speed.specs.Total.{headerFields, sentFields, turnNumbers, replyNumbers, summed};
 use answers::reply_answer::ReplyAnswer;
 use answers::turn::Transmission;
 use answers::turn::TurnAnswer;
@@ -46,7 +46,7 @@ pub fn bytes(h: u32, list: &[u8]) -> u32
 }
 
 fn header(h: u32, d: DataTelegramHeader, to: u8, payload: &[u8]) -> u32
-    ensures { λ r. ⌜ r ≡ summed h (headerNumbers d to (now (payload .entry))) ⌝ }
+    ensures { λ r. ⌜ r ≡ summed h (headerFields d to (now (payload .entry))) ⌝ }
 {
     let dsap = d.dsap;
     let ssap = d.ssap;
@@ -64,7 +64,7 @@ fn header(h: u32, d: DataTelegramHeader, to: u8, payload: &[u8]) -> u32
 }
 
 fn sent(h: u32, t: Transmission, payload: &[u8]) -> u32
-    ensures { λ r. ⌜ r ≡ summed h (sentNumbers t (now (payload .entry))) ⌝ }
+    ensures { λ r. ⌜ r ≡ summed h (sentFields t (now (payload .entry))) ⌝ }
 {
     match t {
         Transmission::Nothing => mix(h, 0),

@@ -17,16 +17,16 @@ use Rattle.station.specs.Record.{counting}
 use Rattle.station.specs.Heard.{byFlags, diagnosisHeard, acknowledgementHeard, exchangedOf, statusHeard, telegramHeard, dataHeard, isExchanged}
 
 -- it is not reported
-abbrev pub Keeps : Heard → Type 0
-Keeps r = isExchanged (r .event) ≡ false
+abbrev pub Unexchanged : Heard → Type 0
+Unexchanged r = isExchanged (r .event) ≡ false
 
-flags-keep : (f : ℕ) (p : Station) → Keeps (byFlags f p)
+flags-keep : (f : ℕ) (p : Station) → Unexchanged (byFlags f p)
 unfolding byFlags
 flags-keep f p =
     by-test (flag 0x0040 f) (λ a. rw a refl)
     (λ a. by-test (flag 0x0004 f) (λ b. rw (a, b) refl) (λ b. by-test (flag 0x0100 f) (λ d. rw (a, b, d) refl) (λ d. by-test (flag 0x0002 f) (λ e. rw (a, b, d, e) refl) (λ e. rw (a, b, d, e) refl))))
 
-pub diagnosis-keeps : (s : PeripheralState) (p : Station) → Keeps (diagnosisHeard s p)
+pub diagnosis-keeps : (s : PeripheralState) (p : Station) → Unexchanged (diagnosisHeard s p)
 diagnosis-keeps Offline p = refl
 diagnosis-keeps WaitForParam p = refl
 diagnosis-keeps WaitForConfig p = refl
@@ -34,7 +34,7 @@ diagnosis-keeps ValidateConfig p = flags-keep (p .diag .flags) (counting 0 p)
 diagnosis-keeps PreDataExchange p = refl
 diagnosis-keeps DataExchange p = refl
 
-pub acknowledgement-keeps : (short : Bool) (next : PeripheralState) (p : Station) → Keeps (acknowledgementHeard short next p)
+pub acknowledgement-keeps : (short : Bool) (next : PeripheralState) (p : Station) → Unexchanged (acknowledgementHeard short next p)
 acknowledgement-keeps true next p = refl
 acknowledgement-keeps false next p = refl
 

@@ -7,12 +7,12 @@ use Rattle.fdl.specs.declared.consts.Sap.the-variants.{Absent, At}
 use Rattle.fdl.specs.declared.telegram.Telegram.{Telegram}
 use Rattle.fdl.specs.declared.telegram.Telegram.the-variants.{ShortConfirmation, Data}
 use Rattle.station.specs.declared.state.PeripheralState.the-variants.{Offline, WaitForParam, ValidateConfig, PreDataExchange, DataExchange}
-use Rattle.trial_table.specs.Trial.{trialTurn, answers, Trial, Shown, Turned, Heard, outcomesOf}
+use Rattle.trial_table.specs.Trial.{trialTurn, answers, Trial, Reported, Turned, Heard, outcomesOf}
 
-pub record Row : Type 0 where
+pub record TrialRow : Type 0 where
   pub number : ℕ
   pub input : Trial
-  pub expected : List Shown
+  pub expected : List Reported
 
 -- a diagnosis reply
 abbrev pub diagnosis : Telegram
@@ -26,7 +26,7 @@ status n = Data Absent Absent n
 abbrev pub seven : List ℕ → List ℕ
 seven user = 0x88 ∷ 0x02 ∷ 0x05 ∷ 0x0B ∷ 0x12 ∷ 0x34 ∷ 0x00 ∷ user
 
-abbrev pub table : List Row
+abbrev pub table : List TrialRow
 table =
     -- payload 88 02 05 0B 12 34 00 00 01 02
     record {
@@ -106,9 +106,9 @@ table =
 
 pub record Line : Type 0 where
   pub number : ℕ
-  pub outcomes : List Shown
+  pub outcomes : List Reported
 
-abbrev pub lineOf : Row → Line
+abbrev pub lineOf : TrialRow → Line
 lineOf r = record { number = r .number; outcomes = outcomesOf (r .input) }
 
 -- the numbers of the trials marked P
@@ -116,7 +116,7 @@ abbrev pub marked : List ℕ
 marked = 1 ∷ 2 ∷ 3 ∷ 4 ∷ 5 ∷ 6 ∷ 7 ∷ 8 ∷ 9 ∷ 10 ∷ 11 ∷ 12 ∷ []
 
 -- with each number what its row expects, in that order; a number without a row expects nothing
-abbrev pub expectedIn : List ℕ → List Row → List Line
+abbrev pub expectedIn : List ℕ → List TrialRow → List Line
 expectedIn [] rows = []
 expectedIn (n ∷ ns) [] = record { number = n; outcomes = [] } ∷ expectedIn ns []
 expectedIn (n ∷ ns) (r ∷ rows) = record { number = n; outcomes = r .expected } ∷ expectedIn ns rows

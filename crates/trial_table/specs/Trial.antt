@@ -125,10 +125,10 @@ pub record Reading : Type 0 where
   pub image : List ℕ
 
 -- a refused call, or one that answers its number alone; a turn with its event, mask, kind of what it sent (5 is global control) and payload; a reply
-pub data Shown : Type 0 where
-  Number : ℕ → Shown
-  Turned : ℕ → ℕ → ℕ → List ℕ → Shown
-  Heard : Reading → Shown
+pub data Reported : Type 0 where
+  Number : ℕ → Reported
+  Turned : ℕ → ℕ → ℕ → List ℕ → Reported
+  Heard : Reading → Reported
 
 abbrev pub sentKind : Transmission → ℕ
 sentKind Nothing = 0
@@ -149,20 +149,20 @@ readingOf event p inputs =
     }
 
 -- of an accepted call; the payload is what stands at the front of the buffer
-abbrev pub doneOf : Answer → World → Shown
+abbrev pub doneOf : Answer → World → Reported
 doneOf (number n) w = Number n
 doneOf (added n h) w = Number n
 doneOf (turned a buf) w = Turned (eventNumber (a .event)) (a .offline) (sentKind (a .transmission)) (take (a .len) buf)
 doneOf (replied a) w = Heard (readingOf (eventNumber (a .event)) (balanceAt (w .unit .peripherals) 0) (w .pools .inputs))
 
-abbrev pub outcomeOf : Answer → World → Shown
+abbrev pub outcomeOf : Answer → World → Reported
 outcomeOf a w = cond (accepted a) (doneOf a w) (Number (refusal a))
 
 -- one call after the other, oldest first
-abbrev pub outcomesFrom : List Call → World → List Shown
+abbrev pub outcomesFrom : List Call → World → List Reported
 outcomesFrom [] w = []
 outcomesFrom (c ∷ calls) w = let done : Done = step w c in outcomeOf (done .answer) (done .world) ∷ outcomesFrom calls (done .world)
 
 -- from the inputs of a trial to its outcomes
-abbrev pub outcomesOf : Trial → List Shown
+abbrev pub outcomesOf : Trial → List Reported
 outcomesOf t = outcomesFrom (t .calls) (startedIn (t .state) (prepared t))

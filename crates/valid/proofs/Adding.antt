@@ -21,7 +21,7 @@ use Rattle.cycle.proofs.Laws.{user-fits, config-fits, inputs-fit, outputs-fit, 
 use Rattle.master.specs.declared.unit.DpMaster.{DpMaster}
 use Rattle.master.specs.declared.add.Addition.{Addition}
 use Rattle.master.specs.declared.add.Added.{Added}
-use Rattle.master.specs.Pools.{Pools, lentOf}
+use Rattle.master.specs.Pools.{Pools, poolLengths}
 use Rattle.master.specs.Add.{newcomer, roomRefusal, usedAfter, unitAdded, lengthsOf, refusalOf, Adding}
 use Rattle.master.proofs.Checks.{setup-room, input-room, output-room, diag-room, add-passed, room-passed}
 use Rattle.valid.specs.Valid.{Sound, Placed, Apart, Before, Fits, Valid, occupied, balance}
@@ -122,6 +122,6 @@ add-valid m a user config pools out r c v =
     let u = m .parameters in
     let s = firstEmpty (m .occupied) in
     subst Valid (sym (c .after ∙ rw e refl))
-    (added m a l v (add-slot u (lentOf pools) s (a .address) l q) (add-lengths u (lentOf pools) s (a .address) l q) (λ f. rw f refl) (λ f. rw f refl) (room-passed m a l pools z)
-    (add-address u (lentOf pools) s (a .address) l q)))
+    (added m a l v (add-slot u (poolLengths pools) s (a .address) l q) (add-lengths u (poolLengths pools) s (a .address) l q) (λ f. rw f refl) (λ f. rw f refl) (room-passed m a l pools z)
+    (add-address u (poolLengths pools) s (a .address) l q)))
     (λ e. subst Valid (sym (c .after ∙ rw e refl)) v)

@@ -20,7 +20,9 @@ room : (c : tie.Then1) → 7 + length (c .before .before .before .before .args .
 room c = leb-true _ _ (fits c)
 
 kept : (c : tie.After-write-head) → length (c .write-head .last .1 .1 .0) ≡ length (c .before .before .before .before .before .before .args .buf .now)
-kept c = ap length (c .write-head .ensures) ∙ length-put 0 7 (paramHead (c .before .before .before .before .before .before .args .u) (c .before .before .before .before .before .before .args .o)) (c .before .before .before .before .before .before .args .buf .now)
+kept c =
+    let at-start = c .before .before .before .before .before .before in
+    ap length (c .write-head .ensures) ∙ length-put 0 7 (paramHead (at-start .args .u) (at-start .args .o)) (at-start .args .buf .now)
 
 inside-requires : tie.Need-inside-requires
 inside-requires c κs = search needs
@@ -51,7 +53,11 @@ same-length c = search needs
 
 returns : tie.Need-returns
 returns c =
-    let w = c .before .before .before .before .before .before .before .before .if1 in let a = c .before .before .before .before .before .before .before .before .before .before .before .before .args in built (a .u) (a .o) (a .user .now) (a .buf .now) (c .before .before .before .before .before .before .write-head .last .1 .1 .0) (c .before .before .copy-at .last .0) (fits (c .before .before .before .before .before .before .before .before)) (c .before .before .before .before .before .before .write-head .ensures) (c .before .before .copy-at .ensures .bytes)
+    let at-copy-at = c .before .before in
+    let at-write-head = at-copy-at .before .before .before .before in
+    let at-if1 = at-write-head .before .before in
+    let at-start = at-if1 .before .before .before .before in
+    let w = at-if1 .if1 in let a = at-start .args in built (a .u) (a .o) (a .user .now) (a .buf .now) (at-write-head .write-head .last .1 .1 .0) (at-copy-at .copy-at .last .0) (fits (at-if1)) (at-write-head .write-head .ensures) (at-copy-at .copy-at .ensures .bytes)
 
 returns-2 : tie.Need-returns-2
 returns-2 c =

@@ -4,13 +4,13 @@ use mathlib.Core.List.{List, _++_}
 use Prim.Native.Nat.{ℕ, _-_, _≤_}
 use native.Mathlib.Omega.{arith}
 use lib.ListN.{length, drop, set, length-set}
-use Rattle.script_driver.specs.Arrays.{entryByte, upTo}
+use Rattle.script_driver.specs.Arrays.{entryByte, tabulated}
 use Rattle.script_driver.proofs.Laws.{upTo-none, upTo-more, upTo-all}
 use Rattle.script_driver.proofs.arrays.fill_list.Statement.{statement}
 use Rattle.script_driver.proofs.arrays.fill_list.Tie as tie
 
 abbrev Inv-loop : tie.InvT-loop
-Inv-loop list₀ b i₀ list i = (i ≤ length list) × (length list ≡ length list₀) × (list ≡ upTo (entryByte b) i ++ drop i list₀)
+Inv-loop list₀ b i₀ list i = (i ≤ length list) × (length list ≡ length list₀) × (list ≡ tabulated (entryByte b) i ++ drop i list₀)
 
 abbrev μ-loop : tie.MeasureT-loop
 μ-loop list₀ b i₀ list i = length list - i
@@ -34,7 +34,7 @@ loop-again : tie.Need-loop-again Inv-loop μ-loop
 loop-again c =
     let at-loop = c .before .before in
     let at-start = at-loop .before .before in
-    (simp length-set (omega arith), simp length-set (at-loop .loop .inv .1), ap (λ (l : List ℕ). set l (at-loop .loop .i) (c .entry-byte .result)) (at-loop .loop .inv .2) ∙ ap (set (upTo (entryByte (at-start .args .b)) (at-loop .loop .i) ++ drop (at-loop .loop .i) (at-start .args .list .now)) (at-loop .loop .i)) (c .entry-byte .ensures) ∙ upTo-more (entryByte (at-start .args .b)) (at-loop .loop .i) (at-start .args .list .now) (omega arith))
+    (simp length-set (omega arith), simp length-set (at-loop .loop .inv .1), ap (λ (l : List ℕ). set l (at-loop .loop .i) (c .entry-byte .result)) (at-loop .loop .inv .2) ∙ ap (set (tabulated (entryByte (at-start .args .b)) (at-loop .loop .i) ++ drop (at-loop .loop .i) (at-start .args .list .now)) (at-loop .loop .i)) (c .entry-byte .ensures) ∙ upTo-more (entryByte (at-start .args .b)) (at-loop .loop .i) (at-start .args .list .now) (omega arith))
 
 same-length : tie.Need-same-length Inv-loop μ-loop
 same-length c = c .before .loop .inv .1

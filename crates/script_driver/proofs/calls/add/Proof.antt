@@ -3,7 +3,7 @@ use mathlib.Core.Path.{_≡_, sym}
 use lib.ListN.{length, take}
 use Rattle.master.specs.Pools.{poolsOf}
 use Rattle.master.specs.Add.{Adding}
-use Rattle.script_driver.specs.Arrays.{lend}
+use Rattle.master.specs.Pools.{lend}
 use Rattle.script_driver.proofs.Laws.{front-le, front-size, short-take, lent-front, lent-behind, moved4}
 use borrow.Author.Needs.{needs}
 use Rattle.script_driver.proofs.calls.add.Statement.{statement}

@@ -3,8 +3,8 @@ use borrow.Author.Needs.{needs}
 use Rattle.answers.proofs.turn.TurnAnswer.of.Statement.{statement}
 use Rattle.answers.proofs.turn.TurnAnswer.of.Tie as tie
 
-fell-requires : tie.Need-fell-requires
-fell-requires c κs = search needs
+offline-event-requires : tie.Need-offline-event-requires
+offline-event-requires c κs = search needs
 
 handle-of-requires : tie.Need-handle-of-requires
 handle-of-requires c κs = search needs
@@ -14,7 +14,7 @@ completes-requires c κs = search needs
 
 returns : tie.Need-returns
 returns c =
-    rw (c .completes .ensures, c .before .handle-of .ensures, c .before .before .fell .ensures)
+    rw (c .completes .ensures, c .before .handle-of .ensures, c .before .before .offline-event .ensures)
 
 pub of-spec : {M : Type 1} → statement M
-of-spec = tie.close (tie.spec fell-requires handle-of-requires completes-requires returns)
+of-spec = tie.close (tie.spec offline-event-requires handle-of-requires completes-requires returns)

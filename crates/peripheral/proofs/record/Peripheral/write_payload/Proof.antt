@@ -62,9 +62,14 @@ same-length c = search needs
 returns : tie.Need-returns
 unfolding payloadOf
 returns c =
-    let a = c .before .before .before .before .before .before .before .before .before .before .before .before .before .args in
-    let e : zeros (length (c .before .before .before .before .before .pi-q .result .now)) ≡ payloadOf (a .kind) (a .u) (a .clear) (a .self) (a .setup .now) (a .outputs .now) = simp (c .before .before .before .before .before .before .enum-told4 .given .1, c .before .before .before .before .if1 .taken, c .before .before .before .before .before .pi-q .ensures .holds) in
-    written-as _ _ _ _ _ e (c .before .before .write-zeros2 .ensures)
+    let at-write-zeros2 = c .before .before in
+    let at-if1 = at-write-zeros2 .before .before in
+    let at-pi-q = at-if1 .before in
+    let at-enum-told4 = at-pi-q .before in
+    let at-start = at-enum-told4 .before .before .before .before .before .before .before in
+    let a = at-start .args in
+    let e : zeros (length (at-pi-q .pi-q .result .now)) ≡ payloadOf (a .kind) (a .u) (a .clear) (a .self) (a .setup .now) (a .outputs .now) = simp (at-enum-told4 .enum-told4 .given .1, at-if1 .if1 .taken, at-pi-q .pi-q .ensures .holds) in
+    written-as _ _ _ _ _ e (at-write-zeros2 .write-zeros2 .ensures)
 
 write-bytes-requires-2 : tie.Need-write-bytes-requires-2
 write-bytes-requires-2 c κs = search needs
@@ -75,9 +80,12 @@ same-length-2 c = search needs
 returns-2 : tie.Need-returns-2
 unfolding payloadOf
 returns-2 c =
-    let a = c .before .before .before .before .before .before .before .before .before .before .before .args in
-    let e : zeros 0 ≡ payloadOf (a .kind) (a .u) (a .clear) (a .self) (a .setup .now) (a .outputs .now) = simp (c .before .before .before .before .enum-told .given .1) in
-    written-as _ _ _ _ _ e (c .before .before .write-zeros .ensures)
+    let at-write-zeros = c .before .before in
+    let at-enum-told = at-write-zeros .before .before in
+    let at-start = at-enum-told .before .before .before .before .before .before .before in
+    let a = at-start .args in
+    let e : zeros 0 ≡ payloadOf (a .kind) (a .u) (a .clear) (a .self) (a .setup .now) (a .outputs .now) = simp (at-enum-told .enum-told .given .1) in
+    written-as _ _ _ _ _ e (at-write-zeros .write-zeros .ensures)
 
 same-length-3 : tie.Need-same-length-3
 same-length-3 c = search needs
@@ -85,9 +93,15 @@ same-length-3 c = search needs
 returns-3 : tie.Need-returns-3
 unfolding payloadOf
 returns-3 c =
-    let a = c .before .before .before .before .before .before .before .before .before .before .before .before .before .args in
-    let e : paramHead (a .u) (a .self .options) ++ c .before .before .before .before .before .part .result .now ≡ payloadOf (a .kind) (a .u) (a .clear) (a .self) (a .setup .now) (a .outputs .now) = simp (c .before .before .before .before .before .before .enum-told2 .given .1, c .before .before .before .before .before .part .ensures .holds, c .before .before .before .before .before .before .before .before .before .widen16 .ensures .0, c .before .before .before .before .before .before .before .before .widen8 .ensures .0) in
-    written-as _ _ _ _ _ e (c .before .before .write-parameters .ensures)
+    let at-write-parameters = c .before .before in
+    let at-part = at-write-parameters .before .before .before in
+    let at-enum-told2 = at-part .before in
+    let at-widen8 = at-enum-told2 .before .before in
+    let at-widen16 = at-widen8 .before in
+    let at-start = at-widen16 .before .before .before .before in
+    let a = at-start .args in
+    let e : paramHead (a .u) (a .self .options) ++ at-part .part .result .now ≡ payloadOf (a .kind) (a .u) (a .clear) (a .self) (a .setup .now) (a .outputs .now) = simp (at-enum-told2 .enum-told2 .given .1, at-part .part .ensures .holds, at-widen16 .widen16 .ensures .0, at-widen8 .widen8 .ensures .0) in
+    written-as _ _ _ _ _ e (at-write-parameters .write-parameters .ensures)
 
 same-length-4 : tie.Need-same-length-4
 same-length-4 c = search needs
@@ -95,9 +109,16 @@ same-length-4 c = search needs
 returns-4 : tie.Need-returns-4
 unfolding payloadOf
 returns-4 c =
-    let a = c .before .before .before .before .before .before .before .before .before .before .before .before .before .args in
-    let e : c .before .before .before .before .part2 .result .now ≡ payloadOf (a .kind) (a .u) (a .clear) (a .self) (a .setup .now) (a .outputs .now) = simp (c .before .before .before .before .before .before .enum-told3 .given .1, c .before .before .before .before .part2 .ensures .holds, c .before .before .before .before .before .before .before .before .before .widen16 .ensures .0, c .before .before .before .before .before .before .before .before .widen8 .ensures .0, c .before .before .before .before .before .widen82 .ensures .0) in
-    written-as _ _ _ _ _ e (c .before .before .write-bytes .ensures)
+    let at-write-bytes = c .before .before in
+    let at-part2 = at-write-bytes .before .before in
+    let at-widen82 = at-part2 .before in
+    let at-enum-told3 = at-widen82 .before in
+    let at-widen8 = at-enum-told3 .before .before in
+    let at-widen16 = at-widen8 .before in
+    let at-start = at-widen16 .before .before .before .before in
+    let a = at-start .args in
+    let e : at-part2 .part2 .result .now ≡ payloadOf (a .kind) (a .u) (a .clear) (a .self) (a .setup .now) (a .outputs .now) = simp (at-enum-told3 .enum-told3 .given .1, at-part2 .part2 .ensures .holds, at-widen16 .widen16 .ensures .0, at-widen8 .widen8 .ensures .0, at-widen82 .widen82 .ensures .0) in
+    written-as _ _ _ _ _ e (at-write-bytes .write-bytes .ensures)
 
 same-length-5 : tie.Need-same-length-5
 same-length-5 c = search needs
@@ -105,9 +126,14 @@ same-length-5 c = search needs
 returns-5 : tie.Need-returns-5
 unfolding payloadOf
 returns-5 c =
-    let a = c .before .before .before .before .before .before .before .before .before .before .before .before .before .args in
-    let e : c .before .before .before .before .before .pi-q .result .now ≡ payloadOf (a .kind) (a .u) (a .clear) (a .self) (a .setup .now) (a .outputs .now) = simp (c .before .before .before .before .before .before .enum-told4 .given .1, c .before .before .before .before .if1 .left, c .before .before .before .before .before .pi-q .ensures .holds) in
-    written-as _ _ _ _ _ e (c .before .before .write-bytes2 .ensures)
+    let at-write-bytes2 = c .before .before in
+    let at-if1 = at-write-bytes2 .before .before in
+    let at-pi-q = at-if1 .before in
+    let at-enum-told4 = at-pi-q .before in
+    let at-start = at-enum-told4 .before .before .before .before .before .before .before in
+    let a = at-start .args in
+    let e : at-pi-q .pi-q .result .now ≡ payloadOf (a .kind) (a .u) (a .clear) (a .self) (a .setup .now) (a .outputs .now) = simp (at-enum-told4 .enum-told4 .given .1, at-if1 .if1 .left, at-pi-q .pi-q .ensures .holds) in
+    written-as _ _ _ _ _ e (at-write-bytes2 .write-bytes2 .ensures)
 
 pub write-payload-spec : {M : Type 1} → statement M
 write-payload-spec =
