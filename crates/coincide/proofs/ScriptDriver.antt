@@ -66,8 +66,8 @@ use Rattle.script_driver.proofs.pieces.append.Kinds as K·pieces-append
 use Rattle.script_driver.proofs.pieces.append.Reads as R·pieces-append
 use Rattle.script_driver.proofs.pieces.unfinished.Kinds as K·pieces-unfinished
 use Rattle.script_driver.proofs.pieces.unfinished.Reads as R·pieces-unfinished
-use Rattle.script_driver.proofs.room.place.Kinds as K·room-place
-use Rattle.script_driver.proofs.room.place.Reads as R·room-place
+use Rattle.script_driver.proofs.room.next_at.Kinds as K·room-next-at
+use Rattle.script_driver.proofs.room.next_at.Reads as R·room-next-at
 
 -- lists with the same front and the same rest are the same
 whole : (n : ℕ) {a b : List ℕ} → take n a ≡ take n b → drop n a ≡ drop n b → a ≡ b
@@ -158,5 +158,5 @@ pieces-append κs a z y e f p q = (same (p .came) (q .came), same (p .bytes) (q 
 pub pieces-unfinished : Coincide 0 K·pieces-unfinished.ps K·pieces-unfinished.r R·pieces-unfinished.Learnt (λ κs z y e f. z ≡ y)
 pieces-unfinished κs a z y e f p q = same p q
 
-pub room-place : Coincide 0 K·room-place.ps K·room-place.r R·room-place.Learnt (λ κs z y e f. z ≡ y)
-room-place κs a z y e f p q = same p q
+pub room-next-at : Coincide 0 K·room-next-at.ps K·room-next-at.r R·room-next-at.Learnt (λ κs z y e f. z ≡ y)
+room-next-at κs a z y e f p q = same p q

@@ -3,7 +3,7 @@
 ghost use mathlib.Core.Path.{_≡_};
 ghost use Prim.Native.Nat.{_<_};
 ghost use lib.ListN.{length};
-ghost use Rattle.script_driver.specs.Room.{placeOf};
+ghost use Rattle.script_driver.specs.Room.{nextAt};
 use cycle::state::OperatingState;
 use fdl::parameters::Parameters;
 use fdl::telegram::Telegram;
@@ -425,9 +425,9 @@ fn flush(out: &[u8], at: usize) {
 
 // Writes what waits where there is no room behind it for every answer, and answers where the next one goes.
 fn flushed(out: &[u8], at: usize) -> usize
-    ensures { λ r. ⌜ r ≡ placeOf (length (now (out .entry))) at ⌝ }
+    ensures { λ r. ⌜ r ≡ nextAt (length (now (out .entry))) at ⌝ }
 {
-    let next = script_driver::room::place(out.len(), at);
+    let next = script_driver::room::next_at(out.len(), at);
     if next < at {
         flush(out, at);
     }

@@ -18,7 +18,7 @@ use Rattle.peripheral_set.specs.declared.PeripheralHandle.{PeripheralHandle}
 use Rattle.peripheral_set.specs.Marks.{slots, listed}
 use Rattle.peripheral.specs.declared.record.Peripheral.{Peripheral}
 use Rattle.peripheral.specs.Record.{blank}
-use Rattle.cycle.specs.declared.refusal.Used.{Used}
+use Rattle.master.specs.declared.unit.Used.{Used}
 use Rattle.cycle.specs.declared.state.DpMasterState.{DpMasterState}
 use Rattle.answers.specs.declared.turn.Transmission.{Transmission}
 use Rattle.answers.specs.declared.turn.Transmission.the-variants.{Nothing, Control, Request}
@@ -28,7 +28,7 @@ use Rattle.master.specs.declared.unit.DpMaster.{DpMaster}
 use Rattle.script_answers.specs.Answer.{bareText, numberedText, addedText, headerText, transmissionText, turnText, replyText, imageText, diagnosisText, listingText}
 use Rattle.script_dump.specs.declared.Sums.{Sums}
 use Rattle.script_dump.specs.Dump.{parametersText, stateText, poolsText, setupText, slotText, slotIf, slotsFrom, dumpText}
-use Rattle.script_driver.specs.Room.{longest, placeOf, Whole}
+use Rattle.script_driver.specs.Room.{longest, nextAt, Whole}
 
 -- ---- fields
 
@@ -200,7 +200,7 @@ written-whole (b ∷ w) at out h =
     ∙ omega arith
 
 -- at the place of the next answer there is room for it
-pub answered-whole : (w : List ℕ) (at : ℕ) (out : List ℕ) → length w ≤ longest → longest ≤ length out → Whole w (placeOf (length out) at) out
+pub answered-whole : (w : List ℕ) (at : ℕ) (out : List ℕ) → length w ≤ longest → longest ≤ length out → Whole w (nextAt (length out) at) out
 answered-whole w at out h k =
     by-test (leb (at + longest) (length out)) (λ e. rw e (written-whole w at out (omega (arith, leb-true (at + longest) (length out) e))))
     (λ e. rw e (written-whole w 0 out (omega arith)))

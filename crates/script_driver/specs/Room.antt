@@ -18,8 +18,8 @@ abbrev pub longest : ℕ
 longest = 2 + fieldMost * (123 + 25 * slots)
 
 -- where the next answer goes in an output of len bytes of which `at` wait: behind them, or to the front once they are written out
-abbrev pub placeOf : ℕ → ℕ → ℕ
-placeOf len at = cond (leb (at + longest) len) at 0
+abbrev pub nextAt : ℕ → ℕ → ℕ
+nextAt len at = cond (leb (at + longest) len) at 0
 
 -- no byte of the text is left out
 abbrev pub Whole : List ℕ → ℕ → List ℕ → Type 0
