@@ -41,7 +41,7 @@ pub struct TurnAnswer {
 }
 
 // What was sent, with the length of its payload.
-fn quiet(len: usize, transmission: Transmission) -> Filled
+fn filled(len: usize, transmission: Transmission) -> Filled
     ensures { λ r. ⌜ r ≡ (record { len = len; transmission = transmission }) ⌝ }
 {
     Filled {
@@ -64,19 +64,19 @@ pub fn fill(
     ensures { λ r. ⌜ Filling step sent p u (payloadSent step sent p u clear (now (setup .entry)) (now (outputs .entry))) (now (buf .entry)) (now (buf .exit)) r ⌝ }
 {
     match step {
-        Step::Halt => quiet(0, Transmission::Nothing),
-        Step::Back => quiet(0, Transmission::Nothing),
+        Step::Halt => filled(0, Transmission::Nothing),
+        Step::Back => filled(0, Transmission::Nothing),
         Step::Control => {
             let len = payloads::write::write_control(clear, buf);
             let header = payloads::request::control_header(u.address);
-            quiet(len, Transmission::Control(header))
+            filled(len, Transmission::Control(header))
         }
         Step::Visits => match sent {
-            Sent::Nobody => quiet(0, Transmission::Nothing),
+            Sent::Nobody => filled(0, Transmission::Nothing),
             Sent::To(slot, kind) => {
                 let header = p.header(kind, u.address);
                 let len = p.write_payload(kind, u, clear, setup, outputs, buf);
-                quiet(
+                filled(
                     len,
                     Transmission::Request {
                         slot: slot,

@@ -25,7 +25,7 @@ paramHead u o =
 unfoldable pub controlPayload : Bool → List ℕ
 controlPayload clear = cond clear 0x02 0 ∷ 0 ∷ []
 
--- how much of the buffer it takes: its length, or 0 where it does not fit
+-- how much of the buffer it takes: its length, or 0 where it does not fit (DECISIONS 25)
 abbrev pub lengthIn : List ℕ → List ℕ → ℕ
 lengthIn payload buf = cond (inside 0 (length payload) buf) (length payload) 0
 

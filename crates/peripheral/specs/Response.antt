@@ -52,7 +52,7 @@ stationDiagnosed p payload diags = withDiagnosis (diagnosisOf payload) (payloadP
 
 -- ---- the input image
 
--- what came is the image: a short confirmation, for a 0-byte image; or a payload of its length, where its range lies in the pool
+-- what came is the image: a short confirmation, for a 0-byte image; or a payload of its length, where its range lies in the pool (DECISIONS 24)
 unfoldable pub fitsImage : Telegram → Peripheral → ℕ → ℕ → Bool
 fitsImage ShortConfirmation p n inputs = eqb (p .ranges .«input_len») 0
 fitsImage (DataReply dsap ssap status) p n inputs = eqb n (p .ranges .«input_len») && leb (p .ranges .inputs + p .ranges .«input_len») inputs
