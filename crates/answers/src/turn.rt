@@ -41,7 +41,7 @@ pub struct TurnAnswer {
 }
 
 // What was sent, with the length of its payload.
-fn filled(len: usize, transmission: Transmission) -> Filled
+fn with_len(len: usize, transmission: Transmission) -> Filled
     ensures { λ r. ⌜ r ≡ (record { len = len; transmission = transmission }) ⌝ }
 {
     Filled {
@@ -64,19 +64,19 @@ pub fn fill(
     ensures { λ r. ⌜ Filling step sent p u (payloadSent step sent p u clear (now (setup .entry)) (now (outputs .entry))) (now (buf .entry)) (now (buf .exit)) r ⌝ }
 {
     match step {
-        Step::Halt => filled(0, Transmission::Nothing),
-        Step::Back => filled(0, Transmission::Nothing),
+        Step::Halt => with_len(0, Transmission::Nothing),
+        Step::Back => with_len(0, Transmission::Nothing),
         Step::Control => {
             let len = payloads::write::write_control(clear, buf);
             let header = payloads::request::control_header(u.address);
-            filled(len, Transmission::Control(header))
+            with_len(len, Transmission::Control(header))
         }
         Step::Visits => match sent {
-            Sent::Nobody => filled(0, Transmission::Nothing),
+            Sent::Nobody => with_len(0, Transmission::Nothing),
             Sent::To(slot, kind) => {
                 let header = p.header(kind, u.address);
                 let len = p.write_payload(kind, u, clear, setup, outputs, buf);
-                filled(
+                with_len(
                     len,
                     Transmission::Request {
                         slot: slot,
