@@ -1,4 +1,5 @@
 -- The frame bit of a balance is what its notes say: First since it was added or reset, then cycled by each reply that 01 lets cycle it.
+-- The idea: each row of the reply's table cycles the bit exactly when the note says so; and what a turn sends carries the bit of the balance that it goes to.
 use mathlib.Core.Path.{_≡_, refl}
 use Prim.Native.Nat.{ℕ}
 use mathlib.Core.Bool.{Bool, true, false, cond}

@@ -1,4 +1,5 @@
 -- A balance is in DataExchange exactly when its notes hold a reply reported DataExchanged with neither a fall nor "SAP not enabled" after it.
+-- The idea: a row puts the state to DataExchange exactly where DataExchanged is reported, and takes it away exactly at a fall or at "SAP not enabled".
 use mathlib.Core.Path.{_≡_, refl}
 use mathlib.Core.Logic.{_⊎_, inl, inr}
 use Prim.Native.Nat.{ℕ, zero, suc, _<_}

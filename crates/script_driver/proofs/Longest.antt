@@ -1,4 +1,4 @@
--- No answer is longer than `longest`, so none is cut off: the place that `place` answers has room for it.
+-- No answer is longer than `longest`, so none is cut off: the place that `next_at` answers has room for it.
 -- The idea: a field has at most 21 bytes whatever its number is, so an answer is bounded by how many fields it has.
 use mathlib.Core.Path.{_≡_, refl, sym, ap, _∙_}
 use mathlib.Core.Bool.{Bool, true, false}
