@@ -1,4 +1,4 @@
-// The table of refusals: its numbers and limits by name, and a function for each row.
+// The table of refusals: its numbers and limits by name, and a function for each row but that of a short list, which stands with the list in `forms`.
 // Every call's refusal is a run of these rows in the table's order; each is given the number so far, so that the first that applies is the answer.
 ghost use mathlib.Core.Path.{_≡_};
 ghost use mathlib.Core.Bool.{cond, _||_};
