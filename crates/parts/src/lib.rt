@@ -6,14 +6,14 @@ ghost use lib.Dec.{leb};
 ghost use lib.ListN.{getD};
 ghost use Rattle.parts.specs.Parts.{zeros, Put, viewAt, Itself};
 
-// An offset, widened where it is used.
+// An offset in a pool or a pool's length, at most 65,535, widened where it is used.
 pub fn widen16(at: u16) -> usize
     ensures { λ r. ⌜ (r ≡ at) × (r < 65536) ⌝ }
 {
     at as usize
 }
 
-// A length, widened where it is used.
+// A length of at most 255 bytes, or a slot number, widened where it is used.
 pub fn widen8(len: u8) -> usize
     ensures { λ r. ⌜ (r ≡ len) × (r < 256) ⌝ }
 {
@@ -40,7 +40,7 @@ pub fn byte_at(src: &[u8], i: usize) -> u8
     if i < src.len() { src[i] } else { 0 }
 }
 
-// `src` is copied to the start of the range of `room` bytes from `at` where it fits.
+// `src` is copied to the start of the range of `room` bytes from `at` where it fits; answers whether it did.
 pub fn copy_at(dst: &mut [u8], at: usize, room: usize, src: &[u8]) -> bool
     ensures { λ r. ⌜ Put at room (now (src .entry)) (now (dst .entry)) (now (dst .exit)) r ⌝ }
 {
@@ -58,7 +58,7 @@ pub fn copy_at(dst: &mut [u8], at: usize, room: usize, src: &[u8]) -> bool
     false
 }
 
-// The range of `len` bytes from `at` is cleared to zeros.
+// The range of `len` bytes from `at` is cleared to zeros where it lies in `dst`; answers whether it did.
 pub fn clear_at(dst: &mut [u8], at: usize, len: usize) -> bool
     ensures { λ r. ⌜ Put at len (zeros len) (now (dst .entry)) (now (dst .exit)) r ⌝ }
 {
@@ -84,7 +84,7 @@ pub fn part(src: &[u8], at: usize, len: usize) -> &[u8]
     &src[0..0]
 }
 
-// The same range, for the caller to write.
+// The same range as that of `part`, for the caller to write.
 pub fn part_mut(src: &mut [u8], at: usize, len: usize) -> &mut [u8]
     ensures { λ r. ⌜ Itself (viewAt at len (now (src .entry))) (src .entry) r ⌝ }
 {
