@@ -5,49 +5,73 @@ ghost use mathlib.Core.Bool.{cond, _||_};
 ghost use Rattle.refusals.specs.Table.{orElse, said, parameterRow, lentRow, bufferRow, turnRow, handleRow, fullRow, addressRow, lengthRow, roomRow, askedRow, usableRow, writeRow};
 
 // The numbers. The definitions say them and the limits again.
+
+// 0: done.
 pub const DONE: u8 = 0;
 
+// 1: creation, a parameter outside its range.
 pub const BAD_PARAMETER: u8 = 1;
 
+// 2: a lent pool's length is not the one at creation, or a payload buffer or list is too short.
 pub const BAD_LENT: u8 = 2;
 
+// 3: turn, a time before that of the last accepted turn.
 pub const EARLY_TURN: u8 = 3;
 
+// 4: the handle's slot is empty or above 31.
 pub const BAD_HANDLE: u8 = 4;
 
+// 5: add, all 32 slots are occupied.
 pub const TABLE_FULL: u8 = 5;
 
+// 6: add or reset, an address above 125 or the master's own.
 pub const BAD_ADDRESS: u8 = 6;
 
+// 7: add, a length above its limit.
 pub const TOO_LONG: u8 = 7;
 
+// 8: add, one of the four ranges passes its pool's end.
 pub const NO_ROOM: u8 = 8;
 
+// 9: reply, no request open, or another address than the open one's.
 pub const NOT_ASKED: u8 = 9;
 
+// 10: reply, a token, a request telegram, another status than the nine codes, or a payload over 246 bytes.
 pub const UNUSABLE: u8 = 10;
 
+// 11: output write, the length is not the image's.
 pub const BAD_LENGTH: u8 = 11;
 
 // The limits.
+
+// Highest address of a station, of the master as of a balance; the lowest is 0.
 pub const MAX_ADDRESS: u8 = 125;
 
+// Highest retry limit, so that a balance's count, at most one above it, is a byte.
 pub const MAX_RETRIES: u32 = 254;
 
+// Longest slot time (Tsl) in microseconds; the shortest is 1.
 pub const MAX_SLOT_TIME: u32 = 1000000;
 
+// Longest of each of the four pools, in bytes.
 pub const MAX_POOL: u32 = 16384;
 
+// Shortest payload buffer in bytes: as long as the longest payload that a turn sends.
 pub const MIN_BUFFER: usize = 244;
 
+// Longest user parameters of a balance in bytes; with the seven that go before them 244.
 pub const MAX_USER: usize = 237;
 
+// Longest configuration of a balance in bytes.
 pub const MAX_CONFIG: usize = 244;
 
+// Longest input image, and longest output image, of a balance in bytes.
 pub const MAX_IMAGE: usize = 244;
 
+// Largest room for the extended diagnosis of a balance in bytes; with the six that go before it 244.
 pub const MAX_ROOM: usize = 238;
 
+// Longest payload of a reply in bytes.
 pub const MAX_PAYLOAD: usize = 246;
 
 // The number so far where there is one; else the row's number where it applies, and 0 where it does not.
