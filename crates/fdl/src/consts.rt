@@ -2,18 +2,29 @@
 ghost use mathlib.Core.Path.{_≡_};
 ghost use Rattle.fdl.specs.Sap.{sapNumber, sapOf, serviceSap};
 
+// The service access point at one end of a telegram (DSAP or SSAP), or none.
 pub enum Sap {
+    // No access point, as in data exchange; its number is 255.
     Absent,
+    // The access point of this number; one that `of` made is 0 to 254.
     At(u8),
 }
 
+// The services at the master's end and at the slave's end of a telegram; each has its access point.
 pub enum Service {
+    // The master's end of data exchange (Data_Exchange): none.
     MasterDataExchange,
+    // The master's end of all else, its handler of slaves (MS0): 62.
     MasterMs0,
+    // The slave's end of data exchange (Data_Exchange): none.
     SlaveDataExchange,
+    // The slave's end of the global control (Global_Control): 58.
     SlaveGlobalControl,
+    // The slave's end of a diagnosis (Slave_Diag), where it is asked for and comes from: 60.
     SlaveDiagnosis,
+    // The slave's end of parameters (Set_Prm): 61.
     SlaveSetPrm,
+    // The slave's end of a configuration (Chk_Cfg): 62.
     SlaveChkCfg,
 }
 
@@ -28,6 +39,7 @@ impl Sap {
         }
     }
 
+    // The access point of a number; 255 is none.
     pub fn of(n: u8) -> Sap
         ensures { λ r. ⌜ r ≡ sapOf n ⌝ }
     {
@@ -39,6 +51,7 @@ impl Sap {
 }
 
 impl Service {
+    // Where the service is reached: its access point, or none.
     pub fn sap(self) -> Sap
         ensures { λ r. ⌜ r ≡ serviceSap self ⌝ }
     {

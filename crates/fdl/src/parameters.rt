@@ -8,18 +8,30 @@ use refusals::MAX_POOL;
 use refusals::MAX_RETRIES;
 use refusals::MAX_SLOT_TIME;
 
+// What a unit is created with, and what it holds of that from then on.
 #[repr(C)]
 pub struct Parameters {
+    // Tsl in microseconds, 1 to 1,000,000; 50 of them after a global control the next one is due.
     pub slot_time: u32,
+    // Length in bytes of the pool for user parameters and configurations, 0 to 16,384.
     pub setup_pool: u16,
+    // Length in bytes of the pool for input images, 0 to 16,384.
     pub input_pool: u16,
+    // Length in bytes of the pool for output images, 0 to 16,384.
     pub output_pool: u16,
+    // Length in bytes of the pool for extended diagnosis, 0 to 16,384.
     pub diag_pool: u16,
+    // The master's own station address, 0 to 125; no balance may have it.
     pub address: u8,
+    // Limit of a balance's count of unanswered requests, 0 to 254; above it a visit reports Offline.
     pub max_retry_limit: u8,
+    // Whether the balances are to run their watchdog (WD_On).
     pub watchdog: bool,
+    // First factor of the watchdog's time (WD_Fact_1), 0 to 255; a unit holds 0 with the watchdog off.
     pub watchdog_first: u8,
+    // Second factor of the watchdog's time (WD_Fact_2), 0 to 255; a unit holds 0 with the watchdog off.
     pub watchdog_second: u8,
+    // Shortest time after which a balance may reply (min Tsdr), in bit times, 0 to 255.
     pub min_tsdr_bits: u8,
 }
 
@@ -31,7 +43,7 @@ fn factor(watchdog: bool, f: u8) -> u8
 }
 
 impl Parameters {
-    // A row of the table for each that has a limit; min Tsdr and the watchdog factors are bytes, of which each is in range.
+    // 1 where one is outside its range, else 0; min Tsdr and the watchdog factors are bytes, of which each is in range.
     pub fn refusal(self) -> u8
         ensures { λ r. ⌜ r ≡ creationRefusal self ⌝ }
     {
