@@ -5,16 +5,21 @@ ghost use Rattle.parts.specs.Parts.{putIn};
 ghost use Rattle.payloads.specs.Diagnosis.{noDiagnosis, taken, flag, flagWeight, diagnosisOf};
 use fdl::telegram::Telegram;
 
-// The last diagnosis; a master of 255 is none.
+// The last diagnosis that was taken, without its extended part.
 #[repr(C)]
 pub struct DiagnosticsInfo {
+    // Bytes 0 and 1 of the reply, low byte first, with 0x0400 removed; 0 before a diagnosis is held.
     pub flags: u16,
+    // Ident number that the balance reports, 0 before a diagnosis is held; not compared with that of the options.
     pub ident_number: u16,
+    // Address of the master that the balance is locked to; 255 is none.
     pub master_address: u8,
+    // Whether a diagnosis was taken since the balance was added or its address reset.
     pub held: bool,
 }
 
 impl DiagnosticsInfo {
+    // No diagnosis held: flags and ident 0, master none.
     pub fn none() -> DiagnosticsInfo
         ensures { λ r. ⌜ r ≡ noDiagnosis ⌝ }
     {
@@ -29,15 +34,22 @@ impl DiagnosticsInfo {
 
 // The flags of a diagnosis that a rule looks at.
 pub enum DiagnosticFlags {
+    // 0x0002: it is not ready for data exchange; in ValidateConfig it is asked again.
     StationNotReady,
+    // 0x0004: the configuration sent to it is faulty; in ValidateConfig that is ConfigError.
     ConfigurationFault,
+    // 0x0008: an extended part follows, from byte 6 on.
     ExtDiag,
+    // 0x0040: the parameters sent to it are faulty; in ValidateConfig that is ParameterError.
     ParameterFault,
+    // 0x0100: it wants parameters; ValidateConfig goes back to WaitForParam.
     ParameterRequired,
+    // 0x0400: by the standard it is always set; it is removed from what is held.
     PermanentBit,
 }
 
 impl DiagnosticFlags {
+    // Its weight in the flags, a power of 2.
     pub fn number(self) -> u16
         ensures { λ r. ⌜ (r ≡ flagWeight self) × (0 < r) ⌝ }
     {

@@ -6,10 +6,15 @@ use fdl::telegram::DataTelegramHeader;
 use fdl::telegram::FrameCountBit;
 use fdl::telegram::RequestType;
 
+// What a balance can be asked for or told; a turn sends at most one.
 pub enum Request {
+    // 1: its diagnosis (Slave_Diag), DSAP 60; no payload.
     Diagnosis,
+    // 2: to take its parameters (Set_Prm), DSAP 61; seven bytes, then the user parameters.
     Parameters,
+    // 3: to check its configuration (Chk_Cfg), DSAP 62; the bytes as stored.
     Configuration,
+    // 4: to exchange data (Data_Exchange), no access points; the output image, zeros in Clear.
     Data,
 }
 
@@ -30,7 +35,7 @@ pub fn control_header(sa: u8) -> DataTelegramHeader
 }
 
 impl Request {
-    // 0 stands for no request.
+    // Its number, 1 to 4; 0 stands for no request.
     pub fn number(self) -> u8
         ensures { λ r. ⌜ r ≡ kindNumber self ⌝ }
     {

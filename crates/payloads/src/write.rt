@@ -34,7 +34,7 @@ fn write_head(u: Parameters, o: PeripheralOptions, buf: &mut [u8])
     buf[6] = o.groups;
 }
 
-// The seven bytes, then the user data, which is lent the part of the buffer that starts at byte 7.
+// The seven bytes, then the user data, whose copier is lent the part of the buffer that starts at byte 7.
 pub fn write_parameters(u: Parameters, o: PeripheralOptions, user: &[u8], buf: &mut [u8]) -> usize
     ensures { λ r. ⌜ Written (paramHead u o ++ now (user .entry)) (now (buf .entry)) (now (buf .exit)) r ⌝ }
 {
@@ -47,7 +47,7 @@ pub fn write_parameters(u: Parameters, o: PeripheralOptions, user: &[u8], buf: &
     0
 }
 
-// Bytes as they are.
+// Bytes as they are: a configuration, or an output image.
 pub fn write_bytes(src: &[u8], buf: &mut [u8]) -> usize
     ensures { λ r. ⌜ Written (now (src .entry)) (now (buf .entry)) (now (buf .exit)) r ⌝ }
 {
@@ -58,7 +58,7 @@ pub fn write_bytes(src: &[u8], buf: &mut [u8]) -> usize
     0
 }
 
-// So many zeros.
+// So many zeros: an output image in Clear, or no payload at all.
 pub fn write_zeros(count: usize, buf: &mut [u8]) -> usize
     ensures { λ r. ⌜ Written (zeros count) (now (buf .entry)) (now (buf .exit)) r ⌝ }
 {
@@ -68,7 +68,7 @@ pub fn write_zeros(count: usize, buf: &mut [u8]) -> usize
     0
 }
 
-// The payload of the global control: 0x02 in Clear, 0x00 in Operate; no group.
+// The payload of the global control, two bytes: 0x02 in Clear, 0x00 in Operate; then 0x00, no group.
 pub fn write_control(clear: bool, buf: &mut [u8]) -> usize
     ensures { λ r. ⌜ Written (controlPayload clear) (now (buf .entry)) (now (buf .exit)) r ⌝ }
 {
