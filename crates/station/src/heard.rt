@@ -14,7 +14,9 @@ use payloads::diagnosis::DiagnosticsInfo;
 
 // The station after a reply, and what is reported.
 pub struct Heard {
+    // As the reply leaves it.
     pub station: Station,
+    // What the reply reports, NoEvent where that is nothing; never Offline.
     pub event: PeripheralEvent,
 }
 
@@ -127,7 +129,7 @@ impl Station {
         s
     }
 
-    // A diagnosis was asked for and is taken; so many bytes of it are stored.
+    // A diagnosis was asked for and is taken; `stored` bytes of extended part stand in its room then.
     pub fn diagnosis_heard(self, diag: DiagnosticsInfo, stored: u8) -> Heard
         ensures { λ r. ⌜ r ≡ diagnosisHeard (stateOf (self .state)) (withDiagnosis diag stored self) ⌝ }
     {
@@ -168,7 +170,7 @@ impl Station {
         }
     }
 
-    // What may be an acknowledgement.
+    // Parameters or configuration were sent: a short confirmation gives the next state, else nothing changes.
     pub fn acknowledgement_heard(self, short: bool, next: PeripheralState) -> Heard
         ensures { λ r. ⌜ r ≡ acknowledgementHeard short next self ⌝ }
     {

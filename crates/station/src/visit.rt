@@ -8,8 +8,11 @@ use payloads::request::Request;
 
 // What a visit does: sends a request, reports the station Offline, or nothing.
 pub enum Visited {
+    // Sends this request, and adds 1 to the count.
     Sends(Request),
+    // Reports it Offline, since its count is above the limit, and puts the count to 0.
     Drops,
+    // Does nothing but put the count to 0: Offline with a count, or set-up data absent where needed.
     Skips,
 }
 
