@@ -11,25 +11,35 @@ use station::record::Station;
 // Where the four ranges stand in their pools. The set-up range is as long as its user parameters and configuration.
 #[repr(C)]
 pub struct Ranges {
+    // First byte of the set-up range in its pool, 0 to 16,384: user parameters, then configuration.
     pub setup: u16,
+    // First byte of the input image in its pool, 0 to 16,384.
     pub inputs: u16,
+    // First byte of the output image in its pool, 0 to 16,384.
     pub outputs: u16,
+    // First byte of the room for extended diagnosis in its pool, 0 to 16,384.
     pub diag: u16,
+    // Length of the input image in bytes, 0 to 244.
     pub input_len: u8,
+    // Length of the output image in bytes, 0 to 244.
     pub output_len: u8,
+    // Length of the room for extended diagnosis in bytes, 0 to 238.
     pub diag_room: u8,
 }
 
-// What visits and replies change, and what they do not: 12 bytes each, 36 in all.
+// The record of a balance, 36 bytes: 12 that visits and replies change, and 24 that they do not.
 #[repr(C)]
 pub struct Peripheral {
+    // What visits and replies change; a reset makes it new.
     pub station: Station,
+    // Where its parts of the four pools are; an add places them, and they stay.
     pub ranges: Ranges,
+    // As given to the add, with the lengths of the set-up data that was lent.
     pub options: PeripheralOptions,
 }
 
 impl Peripheral {
-    // What an empty slot holds.
+    // What an empty slot holds: zeros throughout.
     pub fn blank() -> Peripheral
         ensures { λ r. ⌜ r ≡ blank ⌝ }
     {
@@ -76,6 +86,7 @@ impl Peripheral {
         }
     }
 
+    // As newly added, with these options, its ranges placed.
     pub fn new(address: u8, options: PeripheralOptions, ranges: Ranges) -> Peripheral
         ensures { λ r. ⌜ r ≡ newBalance address options ranges ⌝ }
     {
@@ -96,33 +107,35 @@ impl Peripheral {
         p
     }
 
+    // The station address that it was added at, or last reset to.
     pub fn address(self) -> u8
         ensures { λ r. ⌜ r ≡ self .station .address ⌝ }
     {
         self.station.address
     }
 
+    // The options that it was added with, and the lengths of its set-up data.
     pub fn options(self) -> PeripheralOptions
         ensures { λ r. ⌜ r ≡ self .options ⌝ }
     {
         self.options
     }
 
-    // Whether it responds on the bus.
+    // Whether it responds on the bus: any state but Offline.
     pub fn is_live(self) -> bool
         ensures { λ r. ⌜ r ≡ isLive (self .station) ⌝ }
     {
         self.station.is_live()
     }
 
-    // Whether it exchanges data.
+    // Whether it exchanges data: DataExchange alone.
     pub fn is_running(self) -> bool
         ensures { λ r. ⌜ r ≡ isRunning (self .station) ⌝ }
     {
         self.station.is_running()
     }
 
-    // A wish for a diagnosis.
+    // A wish for a diagnosis: one is due from now on.
     pub fn request_diagnostics(self) -> Peripheral
         ensures { λ r. ⌜ r ≡ stationIs (dueIs true (self .station)) self ⌝ }
     {
@@ -131,13 +144,14 @@ impl Peripheral {
         p
     }
 
+    // The numbers of the diagnosis held; without one, those of none.
     pub fn last_diagnostics(self) -> DiagnosticsInfo
         ensures { λ r. ⌜ r ≡ lastDiagnosis (self .station) ⌝ }
     {
         self.station.last_diagnostics()
     }
 
-    // The extended part of the last diagnosis, itself.
+    // The stored extended part of the last diagnosis, itself; empty where none is held.
     pub fn extended_diagnostics(self, diags: &[u8]) -> &[u8]
         ensures { λ r. ⌜ Itself (extendedView self (now (diags .entry))) (diags .entry) r ⌝ }
     {

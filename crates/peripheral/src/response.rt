@@ -16,21 +16,29 @@ use station::state::PeripheralState;
 
 // What of a payload is kept: the input image, or the extended part of a diagnosis.
 pub enum Keeps {
+    // No byte: both pools stay as they are.
     Neither,
+    // The front of the payload, as long as the input image, goes to the image's range.
     Image,
+    // The payload from byte 6 on goes to the room for extended diagnosis.
     Part,
 }
 
 // The extended part of a diagnosis: whether there is one that fits its room, and how many bytes are stored then.
 pub struct Extended {
+    // Whether 0x0008 announces a part and the room, which lies in the pool, takes it.
     pub fits: bool,
+    // Stored length in bytes, 0 to 238: that of a part that fits, else the length before.
     pub len: u8,
 }
 
 // The peripheral after a reply, what is reported, and what is to be kept.
 pub struct Reply {
+    // As the reply leaves it: only its station differs.
     pub peripheral: Peripheral,
+    // What the reply reports, NoEvent where that is nothing; never Offline.
     pub event: PeripheralEvent,
+    // What `keep` has to copy to a pool.
     pub keeps: Keeps,
 }
 
