@@ -1,5 +1,5 @@
 // Which slots of the table are occupied: the first empty one, the next occupied one, and the listing.
-// No code above looks a mark up itself, so that another way to find a slot changes nothing there.
+// No code of the unit above looks a mark up itself, so that another way to find a slot changes nothing there.
 ghost use mathlib.Core.Path.{_≡_};
 ghost use mathlib.Core.Bool.{true, false};
 ghost use lib.ListN.{length, getD};
@@ -12,15 +12,20 @@ pub const SLOTS: usize = 32;
 // A slot with the address at issue.
 #[repr(C)]
 pub struct PeripheralHandle {
+    // Slot number, 0 to 31; 255 stands for no balance.
     pub slot: u8,
+    // Station address when the handle was issued, 0 to 125, or 255; no call looks at it.
     pub address: u8,
 }
 
 // One row of the listing.
 #[repr(C)]
 pub struct Entry {
+    // Slot number, 0 to 31, or 255 where there is no such entry; rising from row to row.
     pub slot: u8,
+    // Station address of the balance, 0 to 125, or 255 where there is no such entry.
     pub address: u8,
+    // Whether the balance is in DataExchange.
     pub running: bool,
 }
 
