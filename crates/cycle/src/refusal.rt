@@ -13,22 +13,31 @@ use refusals::MAX_USER;
 
 // The lengths of the four lent pools.
 pub struct Lent {
+    // Bytes lent for user parameters and configurations.
     pub setup: usize,
+    // Bytes lent for input images.
     pub inputs: usize,
+    // Bytes lent for output images.
     pub outputs: usize,
+    // Bytes lent for extended diagnosis.
     pub diags: usize,
 }
 
 // The lengths that an add asks for.
 pub struct Lengths {
+    // Bytes of user parameters, 0 where they are absent; above 237 refused as 7.
     pub user: usize,
+    // Bytes of configuration, 0 where it is absent; above 244 refused as 7.
     pub config: usize,
+    // Bytes of the input image; above 244 refused as 7.
     pub inputs: usize,
+    // Bytes of the output image; above 244 refused as 7.
     pub outputs: usize,
+    // Bytes of room for extended diagnosis; above 238 refused as 7.
     pub room: usize,
 }
 
-// A turn: what is lent, and the time.
+// A turn: what is lent (2), and the time (3).
 pub fn turn_refusal(
     u: Parameters,
     s: DpMasterState,
@@ -45,7 +54,7 @@ pub fn turn_refusal(
     refusals::turn(n, s.last_turn, time)
 }
 
-// A reply: what is lent, the open request, and the telegram. `asked` is the address of the balance with the open request.
+// A reply: what is lent (2), the open request, to the balance at the address `asked` (9), and the telegram (10).
 pub fn reply_refusal(
     u: Parameters,
     s: DpMasterState,
@@ -64,7 +73,7 @@ pub fn reply_refusal(
     refusals::usable(n, telegram.is_usable(payload))
 }
 
-// An add, before its ranges have a place: what is lent, the table, the address and the lengths. `slot` is the first empty slot, SLOTS where there is none.
+// An add without its ranges: what is lent (2), the first empty `slot`, SLOTS for none (5), address (6), lengths (7).
 pub fn add_refusal(u: Parameters, lent: Lent, slot: usize, address: u8, l: Lengths) -> u8
     ensures { λ r. ⌜ r ≡ addRefusal u lent slot address l ⌝ }
 {

@@ -10,16 +10,21 @@ use station::visit::Visited;
 // A bit for each slot.
 pub type Mask = u32;
 
-// What was sent to a slot.
+// What the visits of a turn sent to a slot.
 pub enum Sent {
+    // No visit sent anything.
     Nobody,
+    // This request, to the slot of this number, 0 to 31; the visits end there.
     To(u8, Request),
 }
 
-// The slots reported Offline, the first of them (255: none), and what was sent.
+// The slots reported Offline, and what was sent.
 pub struct Seen {
+    // Bit s is set where the visit to slot s reported Offline.
     pub mask: Mask,
+    // Slot number of the first one reported Offline, 0 to 31; 255 is none.
     pub first: u8,
+    // The request that was sent, and the slot that it went to, if there is one.
     pub sent: Sent,
 }
 
@@ -39,7 +44,7 @@ pub fn index(slot: u8) -> usize
 }
 
 impl Sent {
-    // The slot that it was sent to, as an index.
+    // The slot that it was sent to, as an index; 0 for nobody.
     pub fn index(self) -> usize
         ensures { λ r. ⌜ (r ≡ sentIndex self) × (r < slots) ⌝ }
     {
@@ -51,6 +56,7 @@ impl Sent {
 }
 
 impl Seen {
+    // Before the first visit: nobody reported Offline, nothing sent.
     pub fn new() -> Seen
         ensures { λ r. ⌜ r ≡ nothingSeen ⌝ }
     {

@@ -6,35 +6,53 @@ use crate::seen::Seen;
 use crate::seen::Sent;
 use peripheral_set::SLOTS;
 
+// The operating state of the master, which the caller sets.
 pub enum OperatingState {
+    // 0: no data exchange; a turn sends nothing.
     Stop,
+    // 1: balances are set up and data is exchanged, with zeros for all outputs.
     Clear,
+    // 2: regular operation, data exchange with full inputs and outputs.
     Operate,
 }
 
-// What a turn does: nothing, the global control, the place taken back, or the visits.
+// What a turn does: one of the four steps of document 01's "One turn".
 pub enum Step {
+    // Step 1, in Stop: nothing is sent, and the place is kept.
     Halt,
+    // Step 2: the global control is due, and is sent to all.
     Control,
+    // Step 3, with the cycle completed earlier: nothing is sent, and the place goes back to the first slot.
     Back,
+    // Step 4: occupied slots are visited upward from the place, until one sends.
     Visits,
 }
 
 // Everything of the master that changes with each turn or reply. An open request has a kind that is not 0.
 #[repr(C)]
 pub struct DpMasterState {
+    // Time of the last accepted turn in microseconds, 0 before the first.
     pub last_turn: u64,
+    // Time of the last global control in microseconds; 0 where none was sent since `operating` was last set.
     pub last_control: u64,
+    // The place: slot number from which the next visits start, 0 to 31; 0 while the cycle is completed.
     pub slot: u8,
+    // Whether a reply completed the cycle, and no turn took the place back yet.
     pub completed: bool,
+    // Slot number of the open request, 0 to 31; 0 where none is open. DECISIONS 26
     pub open_slot: u8,
+    // Number of the open request's kind, 1 to 4 as in `Request`; 0 where none is open.
     pub open_kind: u8,
+    // Whether a turn was accepted yet, which a first one at time 0 would not show otherwise. DECISIONS 31
     pub has_turned: bool,
+    // Whether a global control was sent since `operating` was last set.
     pub controlled: bool,
+    // Number of the `OperatingState`, 0 to 2.
     pub operating: u8,
 }
 
 impl OperatingState {
+    // The number that stands for it in a record.
     pub fn number(self) -> u8
         ensures { λ r. ⌜ r ≡ operatingNumber self ⌝ }
     {
@@ -88,7 +106,7 @@ impl DpMasterState {
         }
     }
 
-    // Setting a state counts, also where it is the same one.
+    // With this operating state set, also where it is the same one, and the global control due anew.
     pub fn enter(self, state: OperatingState) -> DpMasterState
         ensures { λ r. ⌜ r ≡ entered state self ⌝ }
     {
@@ -134,7 +152,7 @@ impl DpMasterState {
         true
     }
 
-    // What a turn does.
+    // What a turn at this time does; in Stop nothing, else the first of steps 2 to 4 that applies.
     pub fn step(self, time: u64, high_prio_only: bool, slot_time: u32) -> Step
         ensures { λ r. ⌜ r ≡ stepOf (operatingOf (self .operating)) (controlDue time «high_prio_only» «slot_time» self) (self .completed) ⌝ }
     {
