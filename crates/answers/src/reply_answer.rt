@@ -12,9 +12,13 @@ use station::state::PeripheralEvent;
 
 // The answer of a reply: the event with its handle.
 pub struct ReplyAnswer {
+    // Number of the refusal, 2, 9 or 10; 0 when done.
     pub refusal: u8,
+    // Whether no occupied slot comes after the one that was asked; false when refused.
     pub cycle_completed: bool,
+    // What the balance reports, NoEvent where that is nothing or when refused; never Offline.
     pub event: PeripheralEvent,
+    // Slot and address of the balance with the event; 255 and 255 without one.
     pub handle: PeripheralHandle,
 }
 
@@ -55,9 +59,13 @@ impl ReplyAnswer {
 
 // What a reply makes of the parts that it touches: what is stored, what is kept, and the answer.
 pub struct Judged {
+    // The balance with the open request, as the reply leaves it.
     pub peripheral: Peripheral,
+    // The master's own state: request closed and place moved on, or as it was when refused.
     pub state: DpMasterState,
+    // What of the payload goes to a pool; nothing when refused.
     pub keeps: Keeps,
+    // What the caller is told.
     pub answer: ReplyAnswer,
 }
 

@@ -14,29 +14,44 @@ use station::state::PeripheralEvent;
 
 // What a turn sent.
 pub enum Transmission {
+    // No telegram, and the payload buffer is as it was.
     Nothing,
+    // The global control, by its header; the payload is 2 bytes.
     Control(DataTelegramHeader),
+    // A request to a balance, which is the open one from then on.
     Request {
+        // Slot number of the balance, 0 to 31.
         slot: u8,
+        // Which of the four it is, as the log needs to know. DECISIONS 13
         kind: Request,
+        // Addresses, access points, frame bit and priority.
         header: DataTelegramHeader,
     },
 }
 
 // What was sent, and how long its payload is.
 pub struct Filled {
+    // Length in bytes of the payload at the front of the buffer, 0 to 244; 0 where it does not fit. DECISIONS 25
     pub len: usize,
+    // Nothing, the global control or a request.
     pub transmission: Transmission,
 }
 
 // The answer of a turn: the first Offline event with its handle, and a bit for every slot reported Offline.
 pub struct TurnAnswer {
+    // Number of the refusal, 2 or 3; 0 when done.
     pub refusal: u8,
+    // Whether the visits passed the last slot with nothing sent; false when refused.
     pub cycle_completed: bool,
+    // Bit s is set where slot s was reported Offline in this turn.
     pub offline: Mask,
+    // Offline where a bit of the mask is set, else NoEvent.
     pub event: PeripheralEvent,
+    // Slot and address of the first balance reported Offline; 255 and 255 where none was.
     pub handle: PeripheralHandle,
+    // Length in bytes of the payload at the front of the buffer, 0 to 244.
     pub len: usize,
+    // What goes out; nothing when refused.
     pub transmission: Transmission,
 }
 
@@ -103,6 +118,7 @@ fn handle_of(first: u8, address: u8) -> PeripheralHandle
 }
 
 impl TurnAnswer {
+    // A turn refused with this number: no event, nothing sent, length 0.
     pub fn refused(refusal: u8) -> TurnAnswer
         ensures { λ r. ⌜ r ≡ refusedTurn refusal ⌝ }
     {
@@ -118,7 +134,7 @@ impl TurnAnswer {
         }
     }
 
-    // `address` is that of the first balance that fell.
+    // The answer of an accepted turn; `address` is that of the first balance reported Offline.
     pub fn of(step: Step, seen: Seen, address: u8, filled: Filled) -> TurnAnswer
         ensures { λ r. ⌜ r ≡ answerOf step seen address filled ⌝ }
     {
