@@ -54,11 +54,11 @@ cycling p = changed p (p .state) (p .«retry_count») (bitNumber (cycled (bitOf 
 abbrev pub dueIs : Bool → Station → Station
 dueIs b p = changed p (p .state) (p .«retry_count») (p .fcb) b (p .«diag_len») (p .diag)
 
--- with another diagnosis held, and so many bytes of it stored
+-- with another diagnosis held, and so many bytes of extended part stored
 abbrev pub holding : DiagnosticsInfo → ℕ → Station → Station
 holding d n p = changed p (p .state) (p .«retry_count») (p .fcb) (p .«diag_needed») n d
 
--- with a diagnosis taken, of which so many bytes are stored: taking cycles the frame bit
+-- with a diagnosis taken, and so many bytes of extended part stored: taking cycles the frame bit
 unfoldable pub withDiagnosis : DiagnosticsInfo → ℕ → Station → Station
 withDiagnosis d n p = cycling (holding d n p)
 
@@ -78,6 +78,6 @@ isRunning p = runningState (stateOf (p .state))
 abbrev pub lastDiagnosis : Station → DiagnosticsInfo
 lastDiagnosis p = cond (p .diag .held) (p .diag) noDiagnosis
 
--- and how many bytes of it are stored
+-- and how many bytes of extended part are stored
 abbrev pub storedPart : Station → ℕ
 storedPart p = cond (p .diag .held) (p .«diag_len») 0
