@@ -85,7 +85,7 @@ started = enter Operate ∷ addWith 4 ∷ []
 abbrev pub diagnosisAsked : List Call
 diagnosisAsked = turnAt 1 ∷ turnAt 0 ∷ started
 
--- then its reply, and the turn that diagnosisTaken the place back
+-- then its reply, and the turn that takes the place back
 abbrev pub diagnosisAnswered : List Call
 diagnosisAnswered = turnAt 2 ∷ diagnosisReply ∷ diagnosisAsked
 

@@ -115,7 +115,7 @@ MaskTold = MaskBy step
 abbrev pub FrameTold : Type 0
 FrameTold = (u : Parameters) (pools : Pools) (cs : List Call) → frameIn (run u pools cs .world .unit) ≡ frameOf (run u pools cs .log)
 
--- an accepted add diagnosisTaken the first empty slot
+-- an accepted add takes the first empty slot
 abbrev pub FirstTold : Type 0
 FirstTold = (u : Parameters) (pools : Pools) (cs : List Call) (a : Addition) (user config : List ℕ) (lent : Lent) → let r = run u pools cs in
     let x = step (r .world) (add a user config lent) .answer in accepted x ≡ true → FirstEmpty (r .log) (slotGiven x)

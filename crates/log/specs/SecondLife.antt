@@ -107,7 +107,7 @@ answersOf (x ∷ l) = x .1 ∷ answersOf l
 
 abbrev pub offlineTogether : List (Call × List ℕ)
 offlineTogether =
-    -- adding diagnosisTaken the first empty slot
+    -- adding takes the first empty slot
     (addFirst, (0 ∷ 0 ∷ 7 ∷ []))
     -- and then the next
     ∷ (addSecond, (0 ∷ 1 ∷ 8 ∷ []))
