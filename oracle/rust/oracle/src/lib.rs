@@ -18,6 +18,8 @@ pub struct Driver {
     pub unit: Option<Unit>,
     /// Stop and Clear are judged too, though the original says `todo!()` after setting them.
     wide: bool,
+    /// The original is asked whatever it can be asked, in the domain or not.
+    beyond: bool,
     /// An N was read; it may have been one that the original is not asked.
     begun: bool,
     /// The original panicked in this script: its record may be half changed.
@@ -26,16 +28,21 @@ pub struct Driver {
 
 impl Driver {
     pub fn new(wide: bool) -> Self {
-        Driver { unit: None, wide, begun: false, dead: false }
+        Driver { unit: None, wide, beyond: false, begun: false, dead: false }
+    }
+
+    pub fn beyond() -> Self {
+        Driver { beyond: true, ..Driver::new(false) }
     }
 
     /// Answers one line (with no newline in it); the answer has its newline.
-    /// `?` for what is no call, `outside` for what the original is not asked, `panic` where it panics and from there on.
+    /// `?` for what is no call, `outside` for what the original is not asked, `panic` where it panics and from there on
+    /// (beyond the domain: `panic` where it panics, `outside` from there on, `endless` where it would not return).
     pub fn answer(&mut self, text: &[u8], out: &mut Vec<u8>) {
         match line::read(text) {
             None => out.push(b'?'),
             Some(Call::N(p)) => {
-                self.unit = Unit::new(&p);
+                self.unit = Unit::new(&p, self.beyond);
                 self.begun = true;
                 self.dead = false;
                 let word = if self.unit.is_some() { "N 0" } else { "N outside" };
@@ -49,6 +56,7 @@ impl Driver {
                 ASKED.set(true);
                 let word: &[u8] = match self.unit.as_mut() {
                     None => b" outside",
+                    Some(_) if self.dead && self.beyond => b" outside",
                     Some(_) if self.dead => b" panic",
                     Some(u) => match catch_unwind(AssertUnwindSafe(|| u.call(&call, wide, out))) {
                         Ok(true) => b"",

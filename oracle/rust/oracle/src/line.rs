@@ -63,7 +63,8 @@ pub enum Call {
     },
     H,
     D,
-    /// L, P, F and B: what the original has no notion of
+    F(u8),
+    /// L, P and B: what the original has no notion of
     Other,
 }
 
@@ -206,7 +207,8 @@ pub fn read(text: &[u8]) -> Option<Call> {
         b"H" => Call::H,
         b"D" => Call::D,
         b"B" => Call::Other,
-        b"P" | b"F" => {
+        b"F" => Call::F(f.byte()?),
+        b"P" => {
             f.byte()?;
             Call::Other
         }

@@ -1,11 +1,14 @@
 //! Reads call scripts (docs/SCRIPTS.md) from standard input and writes the original's answers to standard output.
-//! With the argument `wide` it also judges Stop and Clear, which stand outside the domain of the comparison.
+//! With the argument `wide` it also judges Stop and Clear, which stand outside the domain of the comparison; with `beyond`
+//! it asks the original whatever it can be asked.
 use std::io::{BufRead, Write};
 
 fn main() {
     oracle::quiet_panics();
-    let wide = std::env::args().nth(1).as_deref() == Some("wide");
-    let mut driver = oracle::Driver::new(wide);
+    let mut driver = match std::env::args().nth(1).as_deref() {
+        Some("beyond") => oracle::Driver::beyond(),
+        word => oracle::Driver::new(word == Some("wide")),
+    };
     let mut input = std::io::stdin().lock();
     let mut output = std::io::BufWriter::with_capacity(1 << 16, std::io::stdout().lock());
     let (mut text, mut out) = (Vec::new(), Vec::new());

@@ -3,13 +3,14 @@
 //!
 //! Only what stands in the domain of the comparison is asked of the original; for anything else `call` answers false
 //! and changes nothing. The original knows no pools: each balance owns its images, and D puts the pools together.
+//! `beyond` the domain it is asked whatever it can be asked: only what it has no notion of is answered false.
 use crate::line::{Addition, Call, Creation, Reply};
 use profirust::dp::{
     DpMaster, OperatingState, Peripheral, PeripheralEvent, PeripheralHandle, PeripheralOptions, PeripheralStorage,
 };
 use profirust::fdl::{
     DataTelegram, DataTelegramHeader, FdlActiveStation, FdlApplication, FrameCountBit, FunctionCode, Parameters,
-    RequestType, ResponseState, ResponseStatus, ShortConfirmation, Telegram, TelegramTx,
+    RequestType, ResponseState, ResponseStatus, ShortConfirmation, Telegram, TelegramTx, TokenTelegram,
 };
 use profirust::time::Instant;
 use std::panic::{catch_unwind, AssertUnwindSafe};
@@ -91,6 +92,9 @@ pub struct Unit {
     pub last_turn: Option<u64>,
     pub open: Option<Open>,
     list: [[u8; 3]; LIST],
+    beyond: bool,
+    /// what the payload buffer holds before a turn: 0, and beyond the domain the byte of the last F
+    fill: u8,
 }
 
 fn number(out: &mut Vec<u8>, mut n: u64) {
@@ -157,14 +161,20 @@ fn sap(number: u8) -> Option<u8> {
     (number != 255).then_some(number)
 }
 
+/// A handle to any slot, as another master gives it out.
+fn foreign(slot: u8) -> PeripheralHandle {
+    let mut other = DpMaster::new(Vec::new());
+    (0..=slot).map(|_| other.add(Peripheral::default())).last().expect("at least one")
+}
+
 impl Unit {
-    /// None for a creation that 01 refuses.
-    pub fn new(p: &Creation) -> Option<Unit> {
+    /// None for a creation that 01 refuses; the original refuses none.
+    pub fn new(p: &Creation, beyond: bool) -> Option<Unit> {
         let allowed = p.own <= 125
             && p.retry <= 254
             && (1..=1_000_000).contains(&p.slot_time)
             && p.pools.iter().all(|&n| n <= 16_384);
-        if !allowed {
+        if !allowed && !beyond {
             return None;
         }
         let storage: Vec<PeripheralStorage<'static>> = (0..SLOTS).map(|_| Default::default()).collect();
@@ -184,6 +194,8 @@ impl Unit {
             last_turn: None,
             open: None,
             list: [[0; 3]; LIST],
+            beyond,
+            fill: 0,
         })
     }
 
@@ -233,12 +245,17 @@ impl Unit {
             }),
             Call::H => self.listing(out),
             Call::D => self.dump(out),
-            Call::N(_) | Call::Other => false,
+            Call::F(byte) if self.beyond => {
+                self.fill = *byte;
+                true
+            }
+            Call::N(_) | Call::F(_) | Call::Other => false,
         }
     }
 
     fn with(&mut self, slot: u8, f: impl FnOnce(&mut Peripheral<'static>) -> bool) -> bool {
         match self.added.get(usize::from(slot)) {
+            None if self.beyond => f(self.dp.get_mut(foreign(slot))),
             None => false,
             Some(a) => f(self.dp.get_mut(a.handle)),
         }
@@ -249,7 +266,7 @@ impl Unit {
         let (user, config) = (length(&a.user), length(&a.config));
         let [inputs, outputs, room] = a.lengths.map(usize::from);
         let need = [user + config, inputs, outputs, room];
-        if self.added.len() == SLOTS
+        let outside = self.added.len() == SLOTS
             || a.addr > 125
             || a.addr == self.fdl.parameters().address
             || user > 237
@@ -257,8 +274,9 @@ impl Unit {
             || inputs > 244
             || outputs > 244
             || room > 238
-            || (0..4).any(|k| self.used[k] + need[k] > self.pools[k])
-        {
+            || (0..4).any(|k| self.used[k] + need[k] > self.pools[k]);
+        // beyond the domain the original's table grows; the list array ends this driver's
+        if outside && !self.beyond || self.added.len() == LIST {
             return false;
         }
         let user = a.user.as_ref().map(|u| self.setup.keep(u));
@@ -285,31 +303,35 @@ impl Unit {
     }
 
     fn enter(&mut self, state: u8, wide: bool, out: &mut Vec<u8>) -> bool {
-        match state {
-            2 => self.dp.enter_state(OperatingState::Operate),
-            _ if !wide => return false,
-            _ => {
-                // The original sets the state and then runs into todo!(); this panic alone is passed over.
-                let wanted = [OperatingState::Stop, OperatingState::Clear][usize::from(state)];
-                let dp = &mut self.dp;
-                let _ = catch_unwind(AssertUnwindSafe(|| dp.enter_state(wanted)));
-                assert!(self.dp.operating_state() == wanted);
-            }
+        let wanted = [OperatingState::Stop, OperatingState::Clear, OperatingState::Operate][usize::from(state)];
+        if state == 2 || self.beyond {
+            self.dp.enter_state(wanted);
+        } else if !wide {
+            return false;
+        } else {
+            // The original sets the state and then runs into todo!(); this panic alone is passed over.
+            let dp = &mut self.dp;
+            let _ = catch_unwind(AssertUnwindSafe(|| dp.enter_state(wanted)));
+            assert!(self.dp.operating_state() == wanted);
         }
         fields(out, &[0]);
         true
     }
 
     fn turn(&mut self, now: u64, high_prio: bool, out: &mut Vec<u8>) -> bool {
-        let Ok(time) = i64::try_from(now) else {
-            return false;
-        };
         let endless = self.added.is_empty() && !self.dp.operating_state().is_stop();
-        if self.last_turn.is_some_and(|t| now < t) || endless {
+        // the original's time is signed: beyond 2^63 it is asked with the same 64 bits
+        let time = Instant::from_micros_const(now as i64);
+        if self.beyond {
+            let due = |t| time - t >= self.fdl.parameters().slot_time() * 50;
+            if endless && (high_prio || !self.dp.peek_global_control().map_or(true, due)) {
+                out.extend_from_slice(b" endless");
+                return true;
+            }
+        } else if now > i64::MAX as u64 || self.last_turn.is_some_and(|t| now < t) || endless {
             return false;
         }
-        let mut buf = [0u8; 255];
-        let time = Instant::from_micros_const(time);
+        let mut buf = vec![self.fill; if self.beyond { usize::from(u16::MAX) } else { 255 }];
         let sent = self.dp.transmit_telegram(time, &self.fdl, TelegramTx::new(&mut buf), high_prio);
         let events = self.dp.take_last_events();
         self.last_turn = Some(now);
@@ -329,7 +351,7 @@ impl Unit {
             RequestType::SrdLow => 12,
             RequestType::SrdHigh => 13,
         };
-        if h.da != 0x7f {
+        if fc != 4 {
             self.open = Some(self.sent_to(&h));
         }
         let to = self.open.map_or(255, |o| o.slot as u64);
@@ -357,21 +379,21 @@ impl Unit {
     }
 
     fn reply(&mut self, r: &Reply, out: &mut Vec<u8>) -> bool {
+        let (da, sa) = (self.fdl.parameters().address, r.addr);
+        let data = |fc| {
+            let h = DataTelegramHeader { da, sa, dsap: sap(r.dsap), ssap: sap(r.ssap), fc };
+            Telegram::Data(DataTelegram { h, pdu: &r.payload })
+        };
         let telegram = match (r.kind, ResponseStatus::from_code(r.status)) {
             (0, _) => Telegram::ShortConfirmation(ShortConfirmation),
-            (1, Some(status)) if r.payload.len() <= 246 => Telegram::Data(DataTelegram {
-                h: DataTelegramHeader {
-                    da: self.fdl.parameters().address,
-                    sa: r.addr,
-                    dsap: sap(r.dsap),
-                    ssap: sap(r.ssap),
-                    fc: FunctionCode::Response { state: ResponseState::Slave, status },
-                },
-                pdu: &r.payload,
-            }),
+            (1, Some(status)) if r.payload.len() <= 246 => {
+                data(FunctionCode::Response { state: ResponseState::Slave, status })
+            }
+            (2, _) if self.beyond => Telegram::Token(TokenTelegram { da, sa }),
+            (3, _) if self.beyond => data(FunctionCode::new_srd_low(FrameCountBit::Inactive)),
             _ => return false,
         };
-        if !self.open.is_some_and(|o| o.addr == r.addr) {
+        if !self.beyond && !self.open.is_some_and(|o| o.addr == r.addr) {
             return false;
         }
         // The original does not look at the time of a reply.
@@ -385,7 +407,7 @@ impl Unit {
     }
 
     fn reset(&mut self, slot: u8, new: u8, out: &mut Vec<u8>) -> bool {
-        if new > 125 || new == self.fdl.parameters().address {
+        if (new > 125 || new == self.fdl.parameters().address) && !self.beyond {
             return false;
         }
         let done = self.with(slot, |p| {
@@ -417,6 +439,9 @@ impl Unit {
     }
 
     fn dump(&mut self, out: &mut Vec<u8>) -> bool {
+        if self.used.iter().any(|&n| n > ARRAY) {
+            return false;
+        }
         let p = self.fdl.parameters();
         let (f1, f2) = p.watchdog_factors.unwrap_or((0, 0));
         let on = p.watchdog_factors.is_some();
