@@ -1,22 +1,25 @@
-// A first program: a unit with one balance, from creation to its first weights, in twenty turns.
-// The balance is played here too (`telegram`, `payload`, `weight`): on a real line the request goes out by the wire, and what comes back is handed in.
+// A first program: a unit with one balance, from creation to its first weights, in twenty turns. `stdout` has what it writes.
+//
 // Turn 1 sends the global control. From turn 2 on every second turn asks the balance: diagnosis, parameters, configuration, diagnosis, then data.
-// Its reply ends the cycle, since there is no other balance, and the turn after it only goes back to the first slot. `stdout` has what is written.
+// The reply ends the cycle, since no other balance is there, and the turn after it sends nothing: it only goes back to the first slot.
+//
+// The balance is played by `weight` and `reply`. On a line the request goes out instead, and `receive_reply` is handed what comes back.
 ghost use mathlib.Core.Path.{_≡_};
 ghost use mathlib.Core.List.{[], _∷_};
-ghost use Prim.Native.Nat.{_*_, _/_, _%_};
 use answers::reply_answer::ReplyAnswer;
 use answers::turn::Transmission;
 use fdl::consts::Sap;
 use fdl::parameters::Parameters;
 use fdl::telegram::Telegram;
 use master::add::Addition;
+use master::receive::Answered;
+use master::turn::Turn;
 use master::unit::DpMaster;
 use payloads::options::PeripheralOptions;
 use payloads::request::Request;
 use station::state::PeripheralEvent;
 
-// The unit has address 2. The four pools are as long as the arrays in `main`: a call that is lent other lengths is refused as 2.
+// The unit. The pools are as long as the arrays in `main`: a call that is lent other lengths is refused as 2.
 fn parameters() -> Parameters {
     Parameters {
         slot_time: 200,
@@ -33,7 +36,7 @@ fn parameters() -> Parameters {
     }
 }
 
-// The balance has address 5, four bytes of weight in, two bytes out. How long its set-up data is the unit sees itself.
+// The balance: four bytes of weight in, two bytes out. How long its set-up data is the unit sees for itself, so the two lengths may be 0.
 fn balance() -> Addition {
     let options = PeripheralOptions {
         ident_number: 0x1234,
@@ -56,39 +59,33 @@ fn balance() -> Addition {
     }
 }
 
-// What the balance weighs at a turn, in hundredths of a carat, high byte first.
+// What lies on the balance at a turn. The last byte is the turn's number, so that a line shows which reply its weight came with.
 fn weight(turn: u8) -> [u8; 4]
-    ensures { λ r. ⌜ r ≡ 0 ∷ 0 ∷ (100 * turn) / 256 ∷ (100 * turn) % 256 ∷ [] ⌝ }
+    ensures { λ r. ⌜ r ≡ 0 ∷ 0 ∷ 9 ∷ turn ∷ [] ⌝ }
 {
-    let hundredths = 100 * (turn as u16);
-    [0, 0, (hundredths / 256) as u8, (hundredths % 256) as u8]
+    [0, 0, 9, turn]
 }
 
-// What the balance answers to a request: a diagnosis from access point 60, an acknowledgement, or data.
-fn telegram(kind: Request) -> Telegram {
+// The reply to each kind of request, handed to the unit: a clean diagnosis, a weight, or a short confirmation.
+fn reply(m: DpMaster, kind: Request, turn: u8, inputs: &mut [u8], diags: &mut [u8]) -> Answered {
     match kind {
-        Request::Diagnosis => Telegram::Data {
-            dsap: Sap::At(62),
-            ssap: Sap::At(60),
-            status: 8,
-        },
-        Request::Parameters => Telegram::ShortConfirmation,
-        Request::Configuration => Telegram::ShortConfirmation,
-        Request::Data => Telegram::Data {
-            dsap: Sap::Absent,
-            ssap: Sap::Absent,
-            status: 8,
-        },
-    }
-}
-
-// The payload of that answer.
-fn payload<'a>(kind: Request, diagnosis: &'a [u8], weight: &'a [u8]) -> &'a [u8] {
-    match kind {
-        Request::Diagnosis => diagnosis,
-        Request::Parameters => &diagnosis[0..0],
-        Request::Configuration => &diagnosis[0..0],
-        Request::Data => weight,
+        Request::Diagnosis => {
+            let telegram = Telegram::Data {
+                dsap: Sap::At(62),
+                ssap: Sap::At(60),
+                status: 8,
+            };
+            m.receive_reply(5, telegram, b"\x00\x0C\x00\x02\x12\x34", inputs, diags)
+        }
+        Request::Data => {
+            let telegram = Telegram::Data {
+                dsap: Sap::Absent,
+                ssap: Sap::Absent,
+                status: 8,
+            };
+            m.receive_reply(5, telegram, &weight(turn), inputs, diags)
+        }
+        _ => m.receive_reply(5, Telegram::ShortConfirmation, b"", inputs, diags),
     }
 }
 
@@ -98,75 +95,49 @@ fn say(word: &[u8], n: u8) {
     io::print_decimal(1, n as u64);
 }
 
-// The bytes of an image, each after a space.
-fn bytes(image: &[u8]) {
-    for i in 0..image.len() {
-        say(b" ", image[i]);
-    }
-}
-
-// What happened at a turn.
-fn line(turn: u8, what: &[u8]) {
+// A line for a turn: what happened, and bytes, each after a space.
+fn line(turn: u8, what: &[u8], bytes: &[u8]) {
     say(b"turn ", turn);
     io::write_all(1, what);
+    for i in 0..bytes.len() {
+        say(b" ", bytes[i]);
+    }
+    io::write_all(1, b"\n");
 }
 
-// A line for what a reply brought. A weight is read only where the answer says that there is a new one.
+// A line for each event. The image is read only where the answer says that a weight came: it is then that of the balance of the handle.
 fn report(m: DpMaster, answer: ReplyAnswer, turn: u8, inputs: &[u8]) {
     let event = answer.event;
     match event {
-        PeripheralEvent::Online => line(turn, b": Online\n"),
-        PeripheralEvent::Configured => line(turn, b": Configured\n"),
+        PeripheralEvent::Online => line(turn, b": Online", b""),
+        PeripheralEvent::Configured => line(turn, b": Configured", b""),
         PeripheralEvent::DataExchanged => {
-            line(turn, b": weight");
-            bytes(access::images::pi_i(m, answer.handle, inputs));
-            io::write_all(1, b"\n");
+            let image = access::images::pi_i(m, answer.handle, inputs);
+            line(turn, b": weight", image);
         }
         _ => {}
     }
 }
 
-// The reply of the balance is handed in.
-fn replied(
-    m: DpMaster,
-    turn: u8,
-    kind: Request,
-    address: u8,
-    inputs: &mut [u8],
-    diags: &mut [u8],
-) -> DpMaster {
-    let diagnosis = [0x00u8, 0x0C, 0x00, 0x02, 0x12, 0x34];
-    let weight = weight(turn);
-    let payload = payload(kind, &diagnosis, &weight);
-    let r = m.receive_reply(address, telegram(kind), payload, inputs, diags);
+// After a turn: where it sent a request, the reply to it is handed in and reported. The global control has no reply.
+fn after(t: Turn, turn: u8, inputs: &mut [u8], diags: &mut [u8]) -> DpMaster {
+    let m = t.master;
+    let answer = t.answer;
+    let sent = answer.transmission;
+    let Transmission::Request {
+        slot: _,
+        kind,
+        header: _,
+    } = sent
+    else {
+        return m;
+    };
+    let r = reply(m, kind, turn, inputs, diags);
     report(r.master, r.answer, turn, inputs);
     r.master
 }
 
-// One turn, and the reply to it where it sent a request.
-fn round(
-    m: DpMaster,
-    turn: u8,
-    setup: &[u8],
-    inputs: &mut [u8],
-    outputs: &[u8],
-    diags: &mut [u8],
-    buf: &mut [u8],
-) -> DpMaster {
-    let t = m.transmit_telegram(100 * (turn as u64), false, setup, outputs, buf);
-    let unit = t.master;
-    let answer = t.answer;
-    let sent = answer.transmission;
-    if let Transmission::Request {
-        slot: _,
-        kind,
-        header,
-    } = sent {
-        return replied(unit, turn, kind, header.da, inputs, diags);
-    }
-    unit
-}
-
+// The pools and the payload buffer are the caller's, and are lent to the calls that need them. The unit goes in and comes back by value.
 fn main() {
     let mut setup = [0u8; 64];
     let mut inputs = [0u8; 16];
@@ -183,8 +154,11 @@ fn main() {
         &mut outputs,
         &mut diags,
     );
+    say(b"add: number ", added.refusal);
+    io::write_all(1, b"\n");
     let mut m = added.master.enter_operate();
     for turn in 1..=20 {
-        m = round(m, turn, &setup, &mut inputs, &outputs, &mut diags, &mut buf);
+        let t = m.transmit_telegram(100 * (turn as u64), false, &setup, &outputs, &mut buf);
+        m = after(t, turn, &mut inputs, &mut diags);
     }
 }

@@ -42,29 +42,50 @@ slice-aggregate-add-6 c = search needs
 add-requires : tie.Need-add-requires Inv-loop μ-loop
 add-requires c κs = search needs
 
+slice-aggregate-say : tie.Need-slice-aggregate-say Inv-loop μ-loop
+slice-aggregate-say c = search needs
+
+say-requires : tie.Need-say-requires Inv-loop μ-loop
+say-requires c κs = search needs
+
+slice-aggregate-write-all : tie.Need-slice-aggregate-write-all Inv-loop μ-loop
+slice-aggregate-write-all c = search needs
+
+write-all-requires : tie.Need-write-all-requires Inv-loop μ-loop
+write-all-requires c κs = search needs
+
 enter-operate-requires : tie.Need-enter-operate-requires Inv-loop μ-loop
 enter-operate-requires c κs = search needs
 
 loop-holds : tie.Need-loop-holds Inv-loop μ-loop
 loop-holds c = search needs
 
-slice-aggregate-round : tie.Need-slice-aggregate-round Inv-loop μ-loop
-slice-aggregate-round c = search needs
+cast-transmit-telegram : tie.Need-cast-transmit-telegram Inv-loop μ-loop
+cast-transmit-telegram c = search needs
 
-slice-aggregate-round-2 : tie.Need-slice-aggregate-round-2 Inv-loop μ-loop
-slice-aggregate-round-2 c = search needs
+mul-transmit-telegram : tie.Need-mul-transmit-telegram Inv-loop μ-loop
+mul-transmit-telegram c = search needs
 
-slice-aggregate-round-3 : tie.Need-slice-aggregate-round-3 Inv-loop μ-loop
-slice-aggregate-round-3 c = search needs
+slice-aggregate-transmit-telegram : tie.Need-slice-aggregate-transmit-telegram Inv-loop μ-loop
+slice-aggregate-transmit-telegram c = search needs
 
-slice-aggregate-round-4 : tie.Need-slice-aggregate-round-4 Inv-loop μ-loop
-slice-aggregate-round-4 c = search needs
+slice-aggregate-transmit-telegram-2 : tie.Need-slice-aggregate-transmit-telegram-2 Inv-loop μ-loop
+slice-aggregate-transmit-telegram-2 c = search needs
 
-slice-aggregate-round-5 : tie.Need-slice-aggregate-round-5 Inv-loop μ-loop
-slice-aggregate-round-5 c = search needs
+slice-aggregate-transmit-telegram-3 : tie.Need-slice-aggregate-transmit-telegram-3 Inv-loop μ-loop
+slice-aggregate-transmit-telegram-3 c = search needs
 
-round-requires : tie.Need-round-requires Inv-loop μ-loop
-round-requires c κs = search needs
+transmit-telegram-requires : tie.Need-transmit-telegram-requires Inv-loop μ-loop
+transmit-telegram-requires c κs = search needs
+
+slice-aggregate-after : tie.Need-slice-aggregate-after Inv-loop μ-loop
+slice-aggregate-after c = search needs
+
+slice-aggregate-after-2 : tie.Need-slice-aggregate-after-2 Inv-loop μ-loop
+slice-aggregate-after-2 c = search needs
+
+after-requires : tie.Need-after-requires Inv-loop μ-loop
+after-requires c κs = search needs
 
 add-turn : tie.Need-add-turn Inv-loop μ-loop
 add-turn c = search needs
@@ -94,14 +115,21 @@ main-spec =
     slice-aggregate-add-5
     slice-aggregate-add-6
     add-requires
+    slice-aggregate-say
+    say-requires
+    slice-aggregate-write-all
+    write-all-requires
     enter-operate-requires
     loop-holds
-    slice-aggregate-round
-    slice-aggregate-round-2
-    slice-aggregate-round-3
-    slice-aggregate-round-4
-    slice-aggregate-round-5
-    round-requires
+    cast-transmit-telegram
+    mul-transmit-telegram
+    slice-aggregate-transmit-telegram
+    slice-aggregate-transmit-telegram-2
+    slice-aggregate-transmit-telegram-3
+    transmit-telegram-requires
+    slice-aggregate-after
+    slice-aggregate-after-2
+    after-requires
     add-turn
     loop-less
     loop-again
