@@ -12,7 +12,6 @@ use fdl::consts::Sap;
 use fdl::parameters::Parameters;
 use fdl::telegram::Telegram;
 use master::add::Addition;
-use master::receive::Answered;
 use master::turn::Turn;
 use master::unit::DpMaster;
 use payloads::options::PeripheralOptions;
@@ -66,26 +65,29 @@ fn weight(turn: u8) -> [u8; 4]
     [0, 0, 9, turn]
 }
 
-// The reply to each kind of request, handed to the unit: a clean diagnosis, a weight, or a short confirmation.
-fn reply(m: DpMaster, kind: Request, turn: u8, inputs: &mut [u8], diags: &mut [u8]) -> Answered {
+// The balance's answer to a request: a diagnosis, data, or a short confirmation.
+fn telegram(kind: Request) -> Telegram {
     match kind {
-        Request::Diagnosis => {
-            let telegram = Telegram::Data {
-                dsap: Sap::At(62),
-                ssap: Sap::At(60),
-                status: 8,
-            };
-            m.receive_reply(5, telegram, b"\x00\x0C\x00\x02\x12\x34", inputs, diags)
-        }
-        Request::Data => {
-            let telegram = Telegram::Data {
-                dsap: Sap::Absent,
-                ssap: Sap::Absent,
-                status: 8,
-            };
-            m.receive_reply(5, telegram, &weight(turn), inputs, diags)
-        }
-        _ => m.receive_reply(5, Telegram::ShortConfirmation, b"", inputs, diags),
+        Request::Diagnosis => Telegram::Data {
+            dsap: Sap::At(62),
+            ssap: Sap::At(60),
+            status: 8,
+        },
+        Request::Data => Telegram::Data {
+            dsap: Sap::Absent,
+            ssap: Sap::Absent,
+            status: 8,
+        },
+        _ => Telegram::ShortConfirmation,
+    }
+}
+
+// The payload of that answer; a short confirmation has none.
+fn payload<'a>(kind: Request, diagnosis: &'a [u8], weight: &'a [u8]) -> &'a [u8] {
+    match kind {
+        Request::Diagnosis => diagnosis,
+        Request::Data => weight,
+        _ => &weight[0..0],
     }
 }
 
@@ -119,7 +121,7 @@ fn report(m: DpMaster, answer: ReplyAnswer, turn: u8, inputs: &[u8]) {
     }
 }
 
-// After a turn: where it sent a request, the reply to it is handed in and reported. The global control has no reply.
+// After a turn: where it sent a request, the answer is handed in and reported. The global control has none.
 fn after(t: Turn, turn: u8, inputs: &mut [u8], diags: &mut [u8]) -> DpMaster {
     let m = t.master;
     let answer = t.answer;
@@ -127,12 +129,14 @@ fn after(t: Turn, turn: u8, inputs: &mut [u8], diags: &mut [u8]) -> DpMaster {
     let Transmission::Request {
         slot: _,
         kind,
-        header: _,
+        header,
     } = sent
     else {
         return m;
     };
-    let r = reply(m, kind, turn, inputs, diags);
+    let weight = weight(turn);
+    let came = payload(kind, b"\x00\x0C\x00\x02\x12\x34", &weight);
+    let r = m.receive_reply(header.da, telegram(kind), came, inputs, diags);
     report(r.master, r.answer, turn, inputs);
     r.master
 }
