@@ -1,9 +1,11 @@
-// A first program: a unit with one balance, from creation to its first weights, in twenty turns. `stdout` has what it writes.
+// A first program: a unit with one balance, from creation to its first weights. `stdout` has what it writes.
 //
-// Turn 1 sends the global control. From turn 2 on every second turn asks the balance: diagnosis, parameters, configuration, diagnosis, then data.
-// The reply ends the cycle, since no other balance is there, and the turn after it sends nothing: it only goes back to the first slot.
+// There are twenty turns, 100 microseconds apart. Turn 1 sends the global control; it would be due again after 50 slot times, past the last turn.
+// From turn 2 on every second turn asks the balance: diagnosis, parameters, configuration, diagnosis, and then data each time.
+// Its reply ends the cycle, since there is no other balance, and the turn after it sends nothing: it takes the place back to the first slot.
 //
-// The balance is played by `weight` and `reply`. On a line the request goes out instead, and `receive_reply` is handed what comes back.
+// The balance is played by `weight`, `telegram` and `payload`. On a line the header of the request and the first `len` bytes of `buf` go out,
+// and what comes back is handed in.
 ghost use mathlib.Core.Path.{_≡_};
 ghost use mathlib.Core.List.{[], _∷_};
 use answers::reply_answer::ReplyAnswer;
@@ -18,7 +20,7 @@ use payloads::options::PeripheralOptions;
 use payloads::request::Request;
 use station::state::PeripheralEvent;
 
-// The unit. The pools are as long as the arrays in `main`: a call that is lent other lengths is refused as 2.
+// The unit. Its pools are as long as the arrays in `main`: a call that is lent another length is refused as 2.
 fn parameters() -> Parameters {
     Parameters {
         slot_time: 200,
@@ -35,7 +37,7 @@ fn parameters() -> Parameters {
     }
 }
 
-// The balance: four bytes of weight in, two bytes out. How long its set-up data is the unit sees for itself, so the two lengths may be 0.
+// The balance, with four bytes of weight in and two bytes out. The two lengths in the options are not looked at (DECISIONS 28).
 fn balance() -> Addition {
     let options = PeripheralOptions {
         ident_number: 0x1234,
@@ -58,14 +60,14 @@ fn balance() -> Addition {
     }
 }
 
-// What lies on the balance at a turn. The last byte is the turn's number, so that a line shows which reply its weight came with.
+// What lies on the balance at a turn. The last byte is the turn, so that a line shows with which reply its weight came.
 fn weight(turn: u8) -> [u8; 4]
     ensures { λ r. ⌜ r ≡ 0 ∷ 0 ∷ 9 ∷ turn ∷ [] ⌝ }
 {
     [0, 0, 9, turn]
 }
 
-// The balance's answer to a request: a diagnosis, data, or a short confirmation.
+// What the balance answers to a request: its diagnosis, its weight, or that it took what was sent.
 fn telegram(kind: Request) -> Telegram {
     match kind {
         Request::Diagnosis => Telegram::Data {
@@ -82,7 +84,7 @@ fn telegram(kind: Request) -> Telegram {
     }
 }
 
-// The payload of that answer; a short confirmation has none.
+// The bytes that come with that answer; a short confirmation has none.
 fn payload<'a>(kind: Request, diagnosis: &'a [u8], weight: &'a [u8]) -> &'a [u8] {
     match kind {
         Request::Diagnosis => diagnosis,
@@ -107,7 +109,7 @@ fn line(turn: u8, what: &[u8], bytes: &[u8]) {
     io::write_all(1, b"\n");
 }
 
-// A line for each event. The image is read only where the answer says that a weight came: it is then that of the balance of the handle.
+// A line for each event that a sound balance gives. Only DataExchanged says that the image is new: then it is read, by the event's handle.
 fn report(m: DpMaster, answer: ReplyAnswer, turn: u8, inputs: &[u8]) {
     let event = answer.event;
     match event {
@@ -121,7 +123,7 @@ fn report(m: DpMaster, answer: ReplyAnswer, turn: u8, inputs: &[u8]) {
     }
 }
 
-// After a turn: where it sent a request, the answer is handed in and reported. The global control has none.
+// After a turn: where it sent a request, the answer is handed in and reported. After the global control none comes.
 fn after(t: Turn, turn: u8, inputs: &mut [u8], diags: &mut [u8]) -> DpMaster {
     let m = t.master;
     let answer = t.answer;
@@ -141,7 +143,7 @@ fn after(t: Turn, turn: u8, inputs: &mut [u8], diags: &mut [u8]) -> DpMaster {
     r.master
 }
 
-// The pools and the payload buffer are the caller's, and are lent to the calls that need them. The unit goes in and comes back by value.
+// The pools and the payload buffer are the caller's, and lent to the calls that need them. The unit goes in and comes back by value.
 fn main() {
     let mut setup = [0u8; 64];
     let mut inputs = [0u8; 16];
