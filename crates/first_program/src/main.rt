@@ -4,8 +4,8 @@
 // From turn 2 on every second turn asks the balance: diagnosis, parameters, configuration, diagnosis, and then data each time.
 // Its reply ends the cycle, since there is no other balance, and the turn after it sends nothing: it takes the place back to the first slot.
 //
-// The balance is played by `weight`, `telegram` and `payload`. On a line the header of the request and the first `len` bytes of `buf` go out,
-// and what comes back is handed in.
+// The balance is played by `weight`, `telegram` and `payload`. On a real line the header of the request and the first `len` bytes of
+// `buf` go out, and what comes back is handed in.
 ghost use mathlib.Core.Path.{_≡_};
 ghost use mathlib.Core.List.{[], _∷_};
 use answers::reply_answer::ReplyAnswer;
@@ -67,7 +67,7 @@ fn weight(turn: u8) -> [u8; 4]
     [0, 0, 9, turn]
 }
 
-// What the balance answers to a request: its diagnosis, its weight, or that it took what was sent.
+// What the balance replies to a request: its diagnosis, its weight, or that it took what was sent.
 fn telegram(kind: Request) -> Telegram {
     match kind {
         Request::Diagnosis => Telegram::Data {
@@ -84,7 +84,7 @@ fn telegram(kind: Request) -> Telegram {
     }
 }
 
-// The bytes that come with that answer; a short confirmation has none.
+// The bytes that come with that reply; a short confirmation has none.
 fn payload<'a>(kind: Request, diagnosis: &'a [u8], weight: &'a [u8]) -> &'a [u8] {
     match kind {
         Request::Diagnosis => diagnosis,
@@ -123,7 +123,7 @@ fn report(m: DpMaster, answer: ReplyAnswer, turn: u8, inputs: &[u8]) {
     }
 }
 
-// After a turn: where it sent a request, the answer is handed in and reported. After the global control none comes.
+// After a turn: where it sent a request, the reply is handed in and reported. After the global control none comes.
 fn after(t: Turn, turn: u8, inputs: &mut [u8], diags: &mut [u8]) -> DpMaster {
     let m = t.master;
     let answer = t.answer;
