@@ -17,19 +17,27 @@ use peripheral::record::Ranges;
 use peripheral_set::PeripheralHandle;
 use refusals::DONE;
 
-// The handle of the new balance; none where the add is refused.
+// What an add answers: the handle of the new balance; none where the add is refused.
 pub struct Added {
+    // 0 where the balance was added, else the number that refused it.
     pub refusal: u8,
+    // Its slot and address, by which all later calls name it; slot 255, address 255 where refused.
     pub handle: PeripheralHandle,
+    // The unit with the new balance; the one that came in where refused.
     pub master: DpMaster,
 }
 
 // What a call adds, beside its set-up data: absent data has the length 0 whatever is lent, and the two lengths in the options are not looked at. DECISIONS 14, 28
 pub struct Addition {
+    // Address of the balance on the bus, 0 to 125 and not the master's own.
     pub address: u8,
+    // Ident, modes, groups, and whether user parameters and configuration are present.
     pub options: PeripheralOptions,
+    // Bytes of its input image, which it sends: 0 to 244.
     pub input_len: usize,
+    // Bytes of its output image, which it is sent: 0 to 244.
     pub output_len: usize,
+    // Bytes kept in the pool of extended diagnosis for its extended part: 0 to 238.
     pub room: usize,
 }
 
@@ -128,6 +136,9 @@ fn clear(pool: &mut [u8], at: u16, len: u8)
 }
 
 impl DpMaster {
+    // A balance is added in the first empty slot, each of its ranges behind the used part of its pool.
+    // Refuses: addRows and roomRows.
+    // Changes: the slot, its mark and the used lengths; set-up data is copied in, the other three ranges are zeroed.
     pub fn add(
         self,
         a: Addition,

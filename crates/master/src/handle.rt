@@ -17,6 +17,8 @@ fn reset_refusal(u: Parameters, marks: [bool; SLOTS], handle: PeripheralHandle, 
 
 impl DpMaster {
     // The balance starts anew at another address, and its open request is closed.
+    // Refuses: resetRows.
+    // Changes: of the balance address, state, count, frame bit and diagnosis; set-up data, images and all bytes stay.
     pub fn reset_address(self, handle: PeripheralHandle, address: u8) -> Done
         ensures { λ r. ⌜ r ≡ resetDone self handle address ⌝ }
     {
@@ -44,6 +46,8 @@ impl DpMaster {
     }
 
     // A wish for a diagnosis, which is retrieved at the next possible time.
+    // Refuses: handleRefusal.
+    // Changes: that a diagnosis of the balance is due.
     pub fn request_diagnostics(self, handle: PeripheralHandle) -> Done
         ensures { λ r. ⌜ r ≡ wishDone self handle ⌝ }
     {

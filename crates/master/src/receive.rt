@@ -4,13 +4,19 @@ use crate::unit::DpMaster;
 use answers::reply_answer::ReplyAnswer;
 use fdl::telegram::Telegram;
 
+// What a reply leaves, and what it answers.
 pub struct Answered {
+    // The unit after the reply; the one that came in where refused.
     pub master: DpMaster,
+    // The number, the event with its handle, and whether the cycle is completed.
     pub answer: ReplyAnswer,
 }
 
 impl DpMaster {
     // The reply of the balance at `address`, with the payload that came with it: judged, then stored, then kept.
+    // Refuses: replyRows.
+    // Changes: the balance that was asked, place and open request; its input image or extended diagnosis, where one came.
+    // Event: Online, Configured, ConfigError, ParameterError, DataExchanged or Diagnostics, of the balance asked; or none.
     pub fn receive_reply(
         self,
         address: u8,

@@ -5,12 +5,19 @@ use answers::turn::TurnAnswer;
 use cycle::seen::Seen;
 use peripheral_set::SLOTS;
 
+// What a turn leaves, and what it answers.
 pub struct Turn {
+    // The unit after the turn; the one that came in where refused.
     pub master: DpMaster,
+    // The number, what was sent, and which balances were found to be Offline.
     pub answer: TurnAnswer,
 }
 
 impl DpMaster {
+    // One turn at `time`, in microseconds: what is sent now, if anything; with `high_prio_only` no global control.
+    // Refuses: turnRows.
+    // Changes: times, place and open request, and the balances that are visited; the payload at the front of the buffer.
+    // Event: Offline, of the first balance reported so, with a bit of the mask for each; or none.
     pub fn transmit_telegram(
         self,
         time: u64,

@@ -11,25 +11,36 @@ use peripheral_set::SLOTS;
 // The used part of each pool.
 #[repr(C)]
 pub struct Used {
+    // Bytes in use at the front of the pool of set-up data, 0 to its length; the next add goes behind them.
     pub setup: u16,
+    // Bytes in use at the front of the pool of input images, 0 to its length.
     pub inputs: u16,
+    // Bytes in use at the front of the pool of output images, 0 to its length.
     pub outputs: u16,
+    // Bytes in use at the front of the pool of extended diagnosis, 0 to its length.
     pub diags: u16,
 }
 
-// 24 bytes that change with each turn, 20 of parameters, 8 of used lengths, a mark and 36 bytes a slot.
+// The unit: 24 bytes that change with each turn, 20 of parameters, 8 of used lengths, a mark and 36 bytes a slot; 1,240 in all.
 #[repr(C)]
 pub struct DpMaster {
+    // Operating state, times, place and open request: what turns and replies change of the master itself.
     pub state: DpMasterState,
+    // As creation took them, the watchdog's factors 0 where it is off; no call changes them.
     pub parameters: Parameters,
+    // How much of each pool the balances take; only adding changes it.
     pub used: Used,
+    // Of each slot whether a balance was added there; no call takes one away.
     pub occupied: [bool; SLOTS],
+    // The balance in each slot; a blank record, zeros throughout, in an empty one.
     pub peripherals: [Peripheral; SLOTS],
 }
 
 // What a call that answers a number leaves.
 pub struct Done {
+    // 0 where the call was done, else the number that refused it.
     pub refusal: u8,
+    // The unit after the call: where that is refused the one that came in, of a creation an empty one.
     pub master: DpMaster,
 }
 
@@ -58,6 +69,8 @@ fn empty_unit(parameters: Parameters) -> DpMaster
 
 impl DpMaster {
     // A new unit; where a parameter is outside its range, an empty one whose parameters are all at their lowest.
+    // Refuses: creationRows.
+    // Changes: nothing; the unit is new, and no pool is lent.
     pub fn new(parameters: Parameters) -> Done
         ensures { λ r. ⌜ r ≡ createdOf parameters ⌝ }
     {
@@ -74,12 +87,18 @@ impl DpMaster {
         }
     }
 
+    // Stop, Clear or Operate, as it was last set; Stop in a fresh unit.
+    // Refuses: nothing.
+    // Changes: nothing.
     pub fn operating_state(self) -> OperatingState
         ensures { λ r. ⌜ r ≡ operatingOf (self .state .operating) ⌝ }
     {
         OperatingState::of(self.state.operating)
     }
 
+    // The operating state is set; the same one counts too. Outside Stop the global control is due from then on.
+    // Refuses: nothing.
+    // Changes: operating state and global control in the record; the place and an open request stay.
     pub fn enter_state(self, state: OperatingState) -> DpMaster
         ensures { λ r. ⌜ r ≡ stateIs (entered state (self .state)) self ⌝ }
     {
@@ -88,18 +107,27 @@ impl DpMaster {
         m
     }
 
+    // As `enter_state` with Stop: turns send nothing.
+    // Refuses: nothing.
+    // Changes: as `enter_state`.
     pub fn enter_stop(self) -> DpMaster
         ensures { λ r. ⌜ r ≡ stateIs (entered OperatingState.Stop (self .state)) self ⌝ }
     {
         self.enter_state(OperatingState::Stop)
     }
 
+    // As `enter_state` with Clear: data is exchanged, and every balance gets zeros.
+    // Refuses: nothing.
+    // Changes: as `enter_state`.
     pub fn enter_clear(self) -> DpMaster
         ensures { λ r. ⌜ r ≡ stateIs (entered OperatingState.Clear (self .state)) self ⌝ }
     {
         self.enter_state(OperatingState::Clear)
     }
 
+    // As `enter_state` with Operate: regular operation, outputs go out as they stand in their pool.
+    // Refuses: nothing.
+    // Changes: as `enter_state`.
     pub fn enter_operate(self) -> DpMaster
         ensures { λ r. ⌜ r ≡ stateIs (entered OperatingState.Operate (self .state)) self ⌝ }
     {
