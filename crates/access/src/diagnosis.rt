@@ -10,10 +10,15 @@ use peripheral_set::PeripheralHandle;
 
 // The number, and the diagnosis; "none" before one is held, and when refused.
 pub struct LastDiagnosis {
+    // 0, or the number that refuses the lent pool or the handle.
     pub refusal: u8,
+    // Flags, ident and master; `held` false, zeros and master 255 where there is none.
     pub value: DiagnosticsInfo,
 }
 
+// The numbers of the last diagnosis that was taken since the balance was added or reset.
+// Refuses: pooledRows.
+// Changes: nothing.
 pub fn last_diagnostics(m: DpMaster, handle: PeripheralHandle, diags: &[u8]) -> LastDiagnosis
     ensures { λ r. ⌜ r ≡ lastOf (diagNumber m handle (now (diags .entry))) (foundIn m handle) ⌝ }
 {
@@ -32,7 +37,9 @@ pub fn last_diagnostics(m: DpMaster, handle: PeripheralHandle, diags: &[u8]) -> 
     }
 }
 
-// Its extended part, itself.
+// The extended part that is stored, itself; empty before a diagnosis is held, and where `last_diagnostics` is refused.
+// Refuses: pooledRows.
+// Changes: nothing.
 pub fn extended_diagnostics(m: DpMaster, handle: PeripheralHandle, diags: &[u8]) -> &[u8]
     ensures { λ r. ⌜ Itself (extendedSeen m handle (now (diags .entry))) (diags .entry) r ⌝ }
 {

@@ -9,12 +9,15 @@ use refusals::DONE;
 
 // The number, and where the image starts in its pool and how long it is; 0 and 0 when refused.
 pub struct ImageRange {
+    // 0, or the number of `pi_q`.
     pub refusal: u8,
+    // Where the image's first byte stands in the pool of outputs, in bytes from its front.
     pub start: usize,
+    // Bytes of the image, 0 to 244.
     pub len: usize,
 }
 
-// The lent pool, then the handle.
+// The number of a call that is lent one pool: its length, then the handle.
 pub fn pooled_refusal(m: DpMaster, handle: PeripheralHandle, lent: usize, pool: u16) -> u8
     ensures { λ r. ⌜ r ≡ pooledRefusal lent pool handle (m .occupied) ⌝ }
 {
@@ -26,14 +29,18 @@ pub fn pooled_refusal(m: DpMaster, handle: PeripheralHandle, lent: usize, pool: 
     )
 }
 
-// The number of `pi_i`.
+// The number of `pi_i`, which itself hands out the part alone.
+// Refuses: pooledRows.
+// Changes: nothing.
 pub fn pi_i_refusal(m: DpMaster, handle: PeripheralHandle, inputs: &[u8]) -> u8
     ensures { λ r. ⌜ r ≡ inputNumber m handle (now (inputs .entry)) ⌝ }
 {
     pooled_refusal(m, handle, inputs.len(), m.parameters.input_pool)
 }
 
-// The input image, itself.
+// The input image, itself: what the newest DataExchanged brought, zeros before the first; empty when refused.
+// Refuses: pooledRows.
+// Changes: nothing.
 pub fn pi_i(m: DpMaster, handle: PeripheralHandle, inputs: &[u8]) -> &[u8]
     ensures { λ r. ⌜ Itself (inputsSeen m handle (now (inputs .entry))) (inputs .entry) r ⌝ }
 {
@@ -45,14 +52,18 @@ pub fn pi_i(m: DpMaster, handle: PeripheralHandle, inputs: &[u8]) -> &[u8]
     p.pi_i(inputs)
 }
 
-// The number of `pi_q` and of `pi_q_mut`.
+// The number of `pi_q` and of `pi_q_mut`, which themselves hand out the part alone.
+// Refuses: pooledRows.
+// Changes: nothing.
 pub fn pi_q_refusal(m: DpMaster, handle: PeripheralHandle, outputs: &[u8]) -> u8
     ensures { λ r. ⌜ r ≡ outputNumber m handle (now (outputs .entry)) ⌝ }
 {
     pooled_refusal(m, handle, outputs.len(), m.parameters.output_pool)
 }
 
-// The output image, itself.
+// The output image, itself: what goes out with a data request in Operate; empty when refused.
+// Refuses: pooledRows.
+// Changes: nothing.
 pub fn pi_q(m: DpMaster, handle: PeripheralHandle, outputs: &[u8]) -> &[u8]
     ensures { λ r. ⌜ Itself (outputsSeen m handle (now (outputs .entry))) (outputs .entry) r ⌝ }
 {
@@ -64,7 +75,9 @@ pub fn pi_q(m: DpMaster, handle: PeripheralHandle, outputs: &[u8]) -> &[u8]
     p.pi_q(outputs)
 }
 
-// The output image, for the caller to write.
+// The output image, for the caller to write; empty when refused.
+// Refuses: pooledRows.
+// Changes: nothing by itself; what the caller writes into the part stands in the pool.
 pub fn pi_q_mut(m: DpMaster, handle: PeripheralHandle, outputs: &mut [u8]) -> &mut [u8]
     ensures { λ r. ⌜ Itself (outputsSeen m handle (now (outputs .entry))) (outputs .entry) r ⌝ }
 {
@@ -77,6 +90,8 @@ pub fn pi_q_mut(m: DpMaster, handle: PeripheralHandle, outputs: &mut [u8]) -> &m
 }
 
 // Where `pi_q` and `pi_q_mut` hand the output image out, for whoever slices the pool himself.
+// Refuses: pooledRows.
+// Changes: nothing.
 pub fn pi_q_range(m: DpMaster, handle: PeripheralHandle, outputs: &[u8]) -> ImageRange
     ensures { λ r. ⌜ r ≡ rangeOf (outputNumber m handle (now (outputs .entry))) (outputsSeen m handle (now (outputs .entry))) ⌝ }
 {
@@ -106,7 +121,9 @@ pub fn pi_q_range(m: DpMaster, handle: PeripheralHandle, outputs: &[u8]) -> Imag
     }
 }
 
-// The output image becomes `bytes`: the lent pool, the handle, and the length.
+// The output image becomes `bytes`, which has to be as long; answers the number.
+// Refuses: writeRefusal.
+// Changes: the bytes of the image.
 pub fn write_outputs(m: DpMaster, handle: PeripheralHandle, bytes: &[u8], outputs: &mut [u8]) -> u8
     ensures { λ r. ⌜ OutputsWritten m handle (now (bytes .entry)) (now (outputs .entry)) (now (outputs .exit)) r ⌝ }
 {

@@ -8,6 +8,9 @@ use peripheral_set::Entry;
 use peripheral_set::PeripheralHandle;
 use peripheral_set::SLOTS;
 
+// How many balances there are: 0 to 32.
+// Refuses: nothing.
+// Changes: nothing.
 pub fn count(m: DpMaster) -> usize
     ensures { λ r. ⌜ r ≡ length (listed (m .occupied)) ⌝ }
 {
@@ -16,6 +19,8 @@ pub fn count(m: DpMaster) -> usize
 }
 
 // The n-th balance, counted from 0; slot 255, address 255 and not running where there are not so many.
+// Refuses: nothing.
+// Changes: nothing.
 pub fn entry(m: DpMaster, n: usize) -> Entry
     ensures { λ r. ⌜ r ≡ entryAt m (getD (listed (m .occupied)) n slots) ⌝ }
 {
