@@ -7,7 +7,9 @@ use peripheral_set::SLOTS;
 
 // The number, and how many entries stand at the front of the list.
 pub struct Listed {
+    // 0, or the number that refuses the list.
     pub refusal: u8,
+    // How many entries were written: 0 to 32, 0 when refused.
     pub count: usize,
 }
 
@@ -28,6 +30,8 @@ fn listed_in(m: DpMaster, room: usize) -> Listed
 }
 
 // The occupied slots in rising order at the front of the list, the rest unchanged. A refusal is no branch: its count is 0.
+// Refuses: listRefusal.
+// Changes: the first so many entries of the list.
 pub fn iter(m: DpMaster, list: &mut [Entry]) -> Listed
     ensures { λ r. ⌜ Iterated m (now (list .entry)) (now (list .exit)) r ⌝ }
 {
