@@ -9,7 +9,7 @@ use peripheral_set::SLOTS;
 pub struct Turn {
     // The unit after the turn; the one that came in where refused.
     pub master: DpMaster,
-    // The number, what was sent, and which balances were found to be Offline.
+    // The number, what was sent, and which balances are reported Offline.
     pub answer: TurnAnswer,
 }
 
