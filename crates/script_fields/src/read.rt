@@ -7,43 +7,63 @@ ghost use Rattle.script_fields.specs.Read.{wrong as badPlace, right as g
 
 // Where a reader stands, and whether all was right up to there. Once something is wrong it stays so.
 pub struct Cursor {
+    // Index of the next byte of the line; 0 once something is wrong.
     pub at: usize,
+    // Whether all fields up to there were as docs/SCRIPTS.md has them.
     pub good: bool,
 }
 
+// A number of up to 64 bits, and where the line goes on.
 pub struct U64Field {
+    // What the digits are worth, 0 to the reader's limit; 0 where they are wrong.
     pub value: u64,
+    // Behind the number; wrong where there is none, or one above the limit.
     pub next: Cursor,
 }
 
+// A number of one byte, and where the line goes on.
 pub struct U8Field {
+    // The number, 0 to 255; 0 where it is wrong.
     pub value: u8,
+    // Behind the number; wrong where there is none, or one above the limit.
     pub next: Cursor,
 }
 
+// A number of two bytes, and where the line goes on.
 pub struct U16Field {
+    // The number, 0 to 65,535; 0 where it is wrong.
     pub value: u16,
+    // Behind the number; wrong where there is none, or one above the limit.
     pub next: Cursor,
 }
 
+// A number of four bytes, and where the line goes on.
 pub struct U32Field {
+    // The number, 0 to 4,294,967,295; 0 where it is wrong.
     pub value: u32,
+    // Behind the number; wrong where there is none, or one above the limit.
     pub next: Cursor,
 }
 
+// A flag, and where the line goes on.
 pub struct FlagField {
+    // True for `1`; false for `0`, and where it is neither.
     pub value: bool,
+    // Behind the flag; wrong where it is neither `0` nor `1`.
     pub next: Cursor,
 }
 
 // So many bytes stand in the lent array; absent set-up data has none.
 pub struct BytesField {
+    // Whether there are bytes at all: false for `x`, and where the field is wrong.
     pub present: bool,
+    // How many bytes: 0 to 255, 0 for `-` and for `x`.
     pub len: usize,
+    // Behind the field; wrong where it has neither bytes nor `-`, nor in a SETUP `x`.
     pub next: Cursor,
 }
 
-// The longest run of bytes in a line.
+// The longest run of bytes in a line, in bytes.
 pub const MOST: usize = 255;
 
 fn wrong() -> Cursor
@@ -127,7 +147,7 @@ fn has(s: &[u8], at: usize, b: u8) -> bool
     false
 }
 
-// One space.
+// Exactly one space: the place behind it, wrong where something else stands there.
 pub fn space(s: &[u8], c: Cursor) -> Cursor
     ensures { λ r. ⌜ r ≡ spaceAt (now (s .entry)) c ⌝ }
 {
@@ -159,6 +179,7 @@ pub fn number(s: &[u8], c: Cursor, limit: u64) -> U64Field
     no_number()
 }
 
+// A number after a space, as one byte: at most `limit`.
 pub fn small(s: &[u8], c: Cursor, limit: u8) -> U8Field
     ensures { λ r. ⌜ r ≡ smallAt limit (now (s .entry)) c ⌝ }
 {
@@ -170,6 +191,7 @@ pub fn small(s: &[u8], c: Cursor, limit: u8) -> U8Field
     }
 }
 
+// A number after a space, as two bytes: at most `limit`.
 pub fn wide_number(s: &[u8], c: Cursor, limit: u16) -> U16Field
     ensures { λ r. ⌜ r ≡ wideAt limit (now (s .entry)) c ⌝ }
 {
@@ -181,6 +203,7 @@ pub fn wide_number(s: &[u8], c: Cursor, limit: u16) -> U16Field
     }
 }
 
+// A number after a space, as four bytes: at most `limit`.
 pub fn word(s: &[u8], c: Cursor, limit: u32) -> U32Field
     ensures { λ r. ⌜ r ≡ wordAt limit (now (s .entry)) c ⌝ }
 {
@@ -192,6 +215,7 @@ pub fn word(s: &[u8], c: Cursor, limit: u32) -> U32Field
     }
 }
 
+// A flag after a space: `0` or `1`.
 pub fn flag(s: &[u8], c: Cursor) -> FlagField
     ensures { λ r. ⌜ r ≡ flagAt (now (s .entry)) c ⌝ }
 {
@@ -269,7 +293,7 @@ fn no_bytes() -> BytesField
     }
 }
 
-// BYTES: the bytes go to the front of `out`.
+// BYTES after a space: the bytes go to the front of `out`.
 pub fn bytes(s: &[u8], c: Cursor, out: &mut [u8; 255]) -> BytesField
     ensures { λ r. ⌜ BytesRead (now (s .entry)) c (now (out .entry)) (now (out .exit)) r ⌝ }
 {
@@ -298,7 +322,7 @@ fn is_absent(s: &[u8], t: Cursor) -> bool
     false
 }
 
-// SETUP: as BYTES, or absent.
+// SETUP after a space: as BYTES, or `x` for absent.
 pub fn setup(s: &[u8], c: Cursor, out: &mut [u8; 255]) -> BytesField
     ensures { λ r. ⌜ SetupRead (now (s .entry)) c (now (out .entry)) (now (out .exit)) r ⌝ }
 {

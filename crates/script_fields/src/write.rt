@@ -12,7 +12,7 @@ pub fn wide(b: u8) -> u64
     b as u64
 }
 
-// One byte.
+// One byte; where there is no room for it, nothing, and the same place.
 pub fn put(out: &mut [u8], at: usize, b: u8) -> usize
     ensures { λ r. ⌜ Wrote (b ∷ []) at (now (out .entry)) (now (out .exit)) r ⌝ }
 {
@@ -44,14 +44,14 @@ fn decimal(out: &mut [u8], at: usize, n: u64, most: usize) -> usize
     put(out, next, digit(n))
 }
 
-// A number: decimal digits, no leading zeros.
+// A number: decimal digits, no leading zeros, at most 20 of them.
 pub fn number(out: &mut [u8], at: usize, n: u64) -> usize
     ensures { λ r. ⌜ Wrote (decimal n) at (now (out .entry)) (now (out .exit)) r ⌝ }
 {
     decimal(out, at, n, 20)
 }
 
-// A flag, as a number.
+// A flag, as a number: 1 where it is set, else 0.
 pub fn flag(b: bool) -> u64
     ensures { λ r. ⌜ r ≡ flagNumber b ⌝ }
 {
@@ -118,7 +118,7 @@ fn pairs(out: &mut [u8], at: usize, list: &[u8]) -> usize
     next
 }
 
-// BYTES after a space.
+// BYTES after a space: two lower-case hex digits a byte, or `-` for none.
 pub fn bytes(out: &mut [u8], at: usize, list: &[u8]) -> usize
     ensures { λ r. ⌜ Wrote (32 ∷ bytesText (now (list .entry))) at (now (out .entry)) (now (out .exit)) r ⌝ }
 {
@@ -129,7 +129,7 @@ pub fn bytes(out: &mut [u8], at: usize, list: &[u8]) -> usize
     pairs(out, next, list)
 }
 
-// h = (h * 256 + byte) mod 1000000007 over all bytes, from 1 on.
+// The checksum: h = (h * 256 + byte) mod 1000000007 over all bytes, from 1 on.
 pub fn sum(list: &[u8]) -> u64
     ensures { λ r. ⌜ r ≡ sumOf (now (list .entry)) ⌝ }
 {
