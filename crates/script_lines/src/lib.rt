@@ -18,58 +18,84 @@ use script_fields::read::Cursor;
 
 // How many bytes of each array a call is lent, and how many entries of the list.
 pub struct Lent {
+    // Bytes of the array of set-up data: L's `ps`, at most `MOST_LENT`.
     pub setup: u16,
+    // Bytes of the array of input images: L's `pi`, at most `MOST_LENT`.
     pub inputs: u16,
+    // Bytes of the array of output images: L's `pq`, at most `MOST_LENT`.
     pub outputs: u16,
+    // Bytes of the array of extended diagnosis: L's `pd`, at most `MOST_LENT`.
     pub diags: u16,
+    // Bytes of the payload array: at most `MOST_PAYLOAD`.
     pub payload: u16,
+    // Entries of the list array: at most `MOST_ENTRIES`.
     pub list: u16,
 }
 
-// What a line asks for; `Unknown` is a line that is no call. Bytes stand in the two lent arrays, here is how many.
+// What a line asks for, by its letter. Bytes stand in the two lent arrays, here is how many.
 pub enum Call {
+    // No call: the line is answered with `?`, and changes nothing.
     Unknown,
+    // N: creation, with these parameters.
     New(Parameters),
+    // L: these lent lengths, for the next call.
     Lend(Lent),
+    // P: every byte of the four pool arrays becomes this one.
     FillPools(u8),
+    // F: every payload byte becomes this one, every entry of the list (byte, byte, byte mod 2).
     FillPayload(u8),
+    // A: an add, with the bytes of its user parameters and configuration; 0 where absent.
     Add {
         addition: Addition,
         user: usize,
         config: usize,
     },
+    // S: the operating state that is set.
     State(OperatingState),
+    // T: a turn at `time`, in microseconds.
     Turn {
         time: u64,
         high_prio_only: bool,
     },
+    // R: a reply from `address`, with so many bytes of payload.
     Reply {
         address: u8,
         telegram: Telegram,
         len: usize,
     },
+    // X: the balance of the handle gets another address.
     Reset {
         handle: PeripheralHandle,
         address: u8,
     },
+    // Q: a wish for a diagnosis.
     Wish(PeripheralHandle),
+    // W: an output write, with so many bytes.
     Write {
         handle: PeripheralHandle,
         len: usize,
     },
+    // I: the input image is asked for.
     Inputs(PeripheralHandle),
+    // O: the output image is asked for.
     Outputs(PeripheralHandle),
+    // G: the last diagnosis is asked for, with its extended part.
     Diagnosis(PeripheralHandle),
+    // H: the listing goes into the list array.
     Listing,
+    // D: the whole unit is asked for, with the sums of the pool arrays.
     Dump,
+    // B: the checksum of the payload array is asked for.
     Payload,
 }
 
-// The limits of numbers. The definitions say them again.
+// The most bytes of a pool array that L lends: all of it. The definitions say this and the next two again.
 pub const MOST_LENT: u16 = 16400;
 
+// The most bytes of the payload array that L lends: all of it.
 pub const MOST_PAYLOAD: u16 = 300;
 
+// The most entries of the list array that L lends: all of it.
 pub const MOST_ENTRIES: u16 = 40;
 
 // A call, where the line ends behind its fields.
