@@ -18,7 +18,7 @@ pub fn bare(out: &mut [u8], at: usize, letter: u8) -> usize
     write::put(out, next, b'\n')
 }
 
-// A letter and a number: N, S, X, Q, W and B.
+// A letter and a number: N, S, X, Q, W and B, and a refused A.
 pub fn numbered(out: &mut [u8], at: usize, letter: u8, n: u64) -> usize
     ensures { λ r. ⌜ Wrote (numberedText letter n) at (now (out .entry)) (now (out .exit)) r ⌝ }
 {
@@ -112,7 +112,7 @@ pub fn turn(out: &mut [u8], at: usize, a: TurnAnswer, payload: &[u8]) -> usize
     write::put(out, next, b'\n')
 }
 
-// R.
+// R: the number, cycle-completed, the event and its slot.
 pub fn reply(out: &mut [u8], at: usize, a: ReplyAnswer) -> usize
     ensures { λ r. ⌜ Wrote (replyText a) at (now (out .entry)) (now (out .exit)) r ⌝ }
 {
@@ -129,7 +129,7 @@ pub fn reply(out: &mut [u8], at: usize, a: ReplyAnswer) -> usize
     write::put(out, next, b'\n')
 }
 
-// I and O.
+// I and O: the number, the length of the part, and its bytes.
 pub fn image(out: &mut [u8], at: usize, letter: u8, refusal: u8, part: &[u8]) -> usize
     ensures { λ r. ⌜ Wrote (imageText letter refusal (now (part .entry))) at (now (out .entry)) (now (out .exit)) r ⌝ }
 {
@@ -140,7 +140,7 @@ pub fn image(out: &mut [u8], at: usize, letter: u8, refusal: u8, part: &[u8]) ->
     write::put(out, next, b'\n')
 }
 
-// G.
+// G: the number, whether one is held, its flags, ident and master, and the extended part.
 pub fn diagnosis(out: &mut [u8], at: usize, refusal: u8, d: DiagnosticsInfo, part: &[u8]) -> usize
     ensures { λ r. ⌜ Wrote (diagnosisText refusal d (now (part .entry))) at (now (out .entry)) (now (out .exit)) r ⌝ }
 {
