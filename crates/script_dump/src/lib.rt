@@ -14,9 +14,13 @@ use script_fields::write;
 
 // The checksums of the four whole pool arrays.
 pub struct Sums {
+    // Of the array of set-up data; each sum is below 1,000,000,007.
     pub setup: u64,
+    // Of the array of input images.
     pub inputs: u64,
+    // Of the array of output images.
     pub outputs: u64,
+    // Of the array of extended diagnosis.
     pub diags: u64,
 }
 
@@ -160,7 +164,7 @@ fn slots(out: &mut [u8], at: usize, marks: [bool; SLOTS], all: [Peripheral; SLOT
     next
 }
 
-// D.
+// D: parameters, state, used lengths, the four sums, the number of balances and 25 fields for each.
 pub fn line(out: &mut [u8], at: usize, m: DpMaster, sums: Sums) -> usize
     ensures { λ r. ⌜ Wrote (dumpText m sums) at (now (out .entry)) (now (out .exit)) r ⌝ }
 {
