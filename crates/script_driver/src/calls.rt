@@ -55,7 +55,7 @@ pub fn clear(
     fill(list, 0);
 }
 
-// A.
+// A: the unit's `add`, lent the front of the four pool arrays.
 pub fn add(
     run: Run,
     addition: Addition,
@@ -85,7 +85,7 @@ pub fn add(
     )
 }
 
-// T.
+// T: the unit's `transmit_telegram`, lent the front of the set-up, output and payload arrays.
 pub fn turn(
     run: Run,
     time: u64,
@@ -108,7 +108,7 @@ pub fn turn(
     )
 }
 
-// R.
+// R: the unit's `receive_reply`, lent the front of the input and diagnosis arrays.
 pub fn reply(
     run: Run,
     address: u8,
@@ -132,7 +132,7 @@ pub fn reply(
     )
 }
 
-// W.
+// W: `write_outputs`, lent the front of the output array.
 pub fn write(run: Run, handle: PeripheralHandle, bytes: &[u8], outputs: &mut [u8]) -> u8
     ensures { λ r. ⌜ LentWrite run handle (now (bytes .entry)) (now (outputs .entry)) (now (outputs .exit)) r ⌝ }
 {
@@ -150,7 +150,7 @@ pub fn inputs_refusal(run: Run, handle: PeripheralHandle, inputs: &[u8]) -> u8
     access::images::pi_i_refusal(run.unit, handle, lent(inputs, l.inputs))
 }
 
-// I.
+// I: `pi_i`, lent the front of the input array.
 pub fn inputs(run: Run, handle: PeripheralHandle, inputs: &[u8]) -> &[u8]
     ensures { λ r. ⌜ Itself (inputsSeen (run .unit) handle (lend (run .lent .inputs) (now (inputs .entry)))) (inputs .entry) r ⌝ }
 {
@@ -166,7 +166,7 @@ pub fn outputs_refusal(run: Run, handle: PeripheralHandle, outputs: &[u8]) -> u8
     access::images::pi_q_refusal(run.unit, handle, lent(outputs, l.outputs))
 }
 
-// O.
+// O: `pi_q`, lent the front of the output array.
 pub fn outputs(run: Run, handle: PeripheralHandle, outputs: &[u8]) -> &[u8]
     ensures { λ r. ⌜ Itself (outputsSeen (run .unit) handle (lend (run .lent .outputs) (now (outputs .entry)))) (outputs .entry) r ⌝ }
 {
@@ -174,7 +174,7 @@ pub fn outputs(run: Run, handle: PeripheralHandle, outputs: &[u8]) -> &[u8]
     access::images::pi_q(run.unit, handle, lent(outputs, l.outputs))
 }
 
-// The numbers of G.
+// The numbers of G: `last_diagnostics`, lent the front of the diagnosis array.
 pub fn diagnosis(run: Run, handle: PeripheralHandle, diags: &[u8]) -> LastDiagnosis
     ensures { λ r. ⌜ r ≡ lastOf (diagNumber (run .unit) handle (lend (run .lent .diags) (now (diags .entry)))) (foundIn (run .unit) handle) ⌝ }
 {
@@ -182,7 +182,7 @@ pub fn diagnosis(run: Run, handle: PeripheralHandle, diags: &[u8]) -> LastDiagno
     access::diagnosis::last_diagnostics(run.unit, handle, lent(diags, l.diags))
 }
 
-// The extended part of G.
+// The extended part of G: `extended_diagnostics`, lent the front of the diagnosis array.
 pub fn extended(run: Run, handle: PeripheralHandle, diags: &[u8]) -> &[u8]
     ensures { λ r. ⌜ Itself (extendedSeen (run .unit) handle (lend (run .lent .diags) (now (diags .entry)))) (diags .entry) r ⌝ }
 {
@@ -192,11 +192,13 @@ pub fn extended(run: Run, handle: PeripheralHandle, diags: &[u8]) -> &[u8]
 
 // The number of H, and how many bytes of the list its entries take.
 pub struct Shown {
+    // 0, or 2 where the lent list has fewer entries than there are slots.
     pub refusal: u8,
+    // Bytes of the list array that the entries take, three each; 0 when refused.
     pub len: usize,
 }
 
-// H.
+// H: the listing into the list array, refused by the lent length as `iter` would be.
 pub fn listing(run: Run, list: &mut [u8]) -> Shown
     ensures { λ r. ⌜ ListingDone run (now (list .entry)) (now (list .exit)) r ⌝ }
 {

@@ -4,7 +4,9 @@ ghost use Rattle.script_driver.specs.Pieces.{lineEnd, Appended, isUnfini
 
 // How much of a line came, and whether it is too long.
 pub struct Partial {
+    // Bytes of the line that came so far and fit, at the front of the line's array.
     pub filled: usize,
+    // Whether a piece did not fit: the line is then no call.
     pub long: bool,
 }
 

@@ -8,15 +8,21 @@ use script_lines::Lent;
 
 // The unit, whether there was an N yet, the lent lengths as N set them, and those of the next call.
 pub struct Run {
+    // The unit as the last call left it; before the first N one that is never seen.
     pub unit: DpMaster,
+    // Whether there was an N yet; before it every other line is no call.
     pub made: bool,
+    // The lent lengths as N set them, to which they go back after each call.
     pub own: Lent,
+    // The lent lengths of the next call: `own`, unless an L said others.
     pub lent: Lent,
 }
 
 // What an N answers and leaves.
 pub struct Made {
+    // 0, or 1 where a parameter is outside its range.
     pub refusal: u8,
+    // The new unit with the lent lengths of its record, also where creation is refused.
     pub run: Run,
 }
 
@@ -35,7 +41,7 @@ fn lent_of(u: Parameters) -> Lent
 }
 
 impl Run {
-    // Before the first N.
+    // Before the first N: no unit was made.
     pub fn empty() -> Run
         ensures { λ r. ⌜ r ≡ nothingMade ⌝ }
     {
@@ -51,7 +57,7 @@ impl Run {
         }
     }
 
-    // N.
+    // N: a new unit, lent the pools of its record, 255 payload bytes and 32 entries.
     pub fn new(p: Parameters) -> Made
         ensures { λ r. ⌜ r ≡ madeOf p ⌝ }
     {
@@ -70,7 +76,7 @@ impl Run {
         }
     }
 
-    // L.
+    // L: other lent lengths for the next call.
     pub fn lend(self, lent: Lent) -> Run
         ensures { λ r. ⌜ r ≡ lendIs lent self ⌝ }
     {
