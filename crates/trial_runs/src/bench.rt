@@ -12,40 +12,54 @@ use master::unit::DpMaster;
 use payloads::options::PeripheralOptions;
 use peripheral_set::PeripheralHandle;
 
-// What stands in the input pool before a reply.
+// What stands in every byte of the input pool before a reply.
 pub const KEPT: u8 = 7;
 
 // The unit, and the pools that the trials look at: by value, so that a trial is a chain of calls.
 pub struct Bench {
+    // The unit, as the calls of the trial so far left it.
     pub unit: DpMaster,
+    // The pool of set-up data, 512 bytes, zeros at first.
     pub setup: [u8; 512],
+    // The pool of input images, 8 bytes, each `KEPT` at first.
     pub inputs: [u8; 8],
 }
 
 // What an add answers, and the two pools that no trial looks at.
 pub struct Placed {
+    // The number that the add answered.
     pub refusal: u8,
+    // The handle of the new balance; none where the add was refused.
     pub handle: PeripheralHandle,
+    // The bench after the add.
     pub bench: Bench,
+    // The pool of output images after the add.
     pub outputs: [u8; 8],
+    // The pool of extended diagnosis after the add.
     pub diags: [u8; 8],
 }
 
 // What a turn answers, and the payload.
 pub struct Seen {
+    // The bench after the turn, with its pools as they were.
     pub bench: Bench,
+    // The turn's answer: number, what was sent, Offline event and mask.
     pub answer: TurnAnswer,
+    // The payload buffer after the turn; before it every byte was 0xFF.
     pub payload: [u8; 244],
 }
 
 // What a reply answers, and the pool that no trial looks at.
 pub struct Replied {
+    // The bench after the reply, with the input image that it may have brought.
     pub bench: Bench,
+    // The reply's answer: number, event and cycle-completed.
     pub answer: ReplyAnswer,
+    // The pool of extended diagnosis after the reply.
     pub diags: [u8; 8],
 }
 
-// The watchdog and Tsdr of the first trial, the slot time of the eighth.
+// A unit with this retry limit, the watchdog and Tsdr of the first trial, the slot time of the eighth.
 pub fn created(limit: u8) -> Done
     ensures { λ r. ⌜ r ≡ benchCreated limit ⌝ }
 {
@@ -129,6 +143,7 @@ pub fn add(b: Bench, address: u8, image: usize, user: &[u8], config: &[u8]) -> P
     }
 }
 
+// The telegram of a diagnosis reply: DSAP 62, SSAP 60, status 8.
 pub fn diagnosis() -> Telegram
     ensures { λ r. ⌜ r ≡ diagnosisTelegram ⌝ }
 {
@@ -139,6 +154,7 @@ pub fn diagnosis() -> Telegram
     }
 }
 
+// The telegram of a data reply with this status, and no access points.
 pub fn data(status: u8) -> Telegram
     ensures { λ r. ⌜ r ≡ dataTelegram status ⌝ }
 {
@@ -149,6 +165,7 @@ pub fn data(status: u8) -> Telegram
     }
 }
 
+// One turn with a payload buffer full of 0xFF, so that what is not written shows.
 pub fn turn(b: Bench, time: u64) -> Seen
     ensures { λ r. ⌜ SeenOn b time r ⌝ }
 {
@@ -171,6 +188,7 @@ pub fn turn(b: Bench, time: u64) -> Seen
     }
 }
 
+// One reply from `address`, with zeros in the pool of extended diagnosis.
 pub fn reply(b: Bench, address: u8, telegram: Telegram, payload: &[u8]) -> Replied
     ensures { λ r. ⌜ RepliedOn b address telegram (now (payload .entry)) r ⌝ }
 {
