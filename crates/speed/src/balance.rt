@@ -9,6 +9,7 @@ use master::add::Addition;
 use payloads::options::PeripheralOptions;
 use payloads::request::Request;
 
+// The unit's parameters, as the first lines of main.rt tell them.
 pub fn parameters() -> Parameters
     ensures { λ r. ⌜ r ≡ unitParameters ⌝ }
 {
@@ -27,6 +28,7 @@ pub fn parameters() -> Parameters
     }
 }
 
+// A balance at this address, with what the first lines of main.rt tell of each.
 pub fn addition(address: u8) -> Addition
     ensures { λ r. ⌜ r ≡ balanceAdded address ⌝ }
 {
@@ -51,12 +53,17 @@ pub fn addition(address: u8) -> Addition
     }
 }
 
-// What a balance answers: the telegram, the address it comes from, and how many bytes of the payload; `answers` is false where it says nothing.
+// What a balance answers: the telegram, where it comes from, and which payload goes with it.
 pub struct Answer {
+    // Whether it says anything; where not, the rest is 0 and a short confirmation.
     pub answers: bool,
+    // The address that the reply comes from: 3 plus the slot.
     pub address: u8,
+    // The slot of the balance, which is the third byte of its image.
     pub slot: u8,
+    // Whether its image goes with it; else six bytes of a diagnosis do.
     pub data: bool,
+    // The reply without its payload.
     pub telegram: Telegram,
 }
 

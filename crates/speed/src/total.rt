@@ -33,6 +33,7 @@ fn low(n: usize) -> u32
     (n % 4294967296) as u32
 }
 
+// The sum with each byte of a list mixed in, in order.
 pub fn bytes(h: u32, list: &[u8]) -> u32
     ensures { λ r. ⌜ r ≡ summed h (now (list .entry)) ⌝ }
 {
@@ -77,6 +78,7 @@ fn sent(h: u32, t: Transmission, payload: &[u8]) -> u32
     }
 }
 
+// The sum with the numbers of a turn's answer mixed in, and the payload that it sent.
 pub fn turn(h: u32, a: TurnAnswer, buf: &[u8]) -> u32
     ensures { λ r. ⌜ r ≡ summed h (turnNumbers a (now (buf .entry))) ⌝ }
 {
@@ -92,6 +94,7 @@ pub fn turn(h: u32, a: TurnAnswer, buf: &[u8]) -> u32
     sent(sum, t, parts::part(buf, 0, a.len))
 }
 
+// The sum with the four numbers of a reply's answer mixed in.
 pub fn reply(h: u32, a: ReplyAnswer) -> u32
     ensures { λ r. ⌜ r ≡ summed h (replyNumbers a) ⌝ }
 {
