@@ -1,4 +1,4 @@
--- The balances of the bench, as the first lines of src/main.rt tell: how each is set up, and what it answers.
+-- The balances of the bench: how each is set up, and what it answers. From docs/COMPARE.md, "Speed".
 use Prim.Native.Nat.{ℕ}
 use mathlib.Core.Bool.{Bool, true, false, cond}
 use lib.Dec.{eqb}

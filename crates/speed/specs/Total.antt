@@ -1,4 +1,4 @@
--- The sum over all that is answered, as the first lines of src/main.rt tell: the numbers of an answer in the order of docs/SCRIPTS.md.
+-- The sum over all that is answered, the numbers of an answer in the order of docs/SCRIPTS.md. From docs/COMPARE.md, "Speed".
 use Prim.Native.Nat.{ℕ, _%_}
 use mathlib.Core.List.{List, [], _∷_, _++_}
 use Rattle.parts.specs.Parts.{part}
