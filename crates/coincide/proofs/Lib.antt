@@ -6,6 +6,7 @@ pub mod Payloads
 pub mod Station
 pub mod Peripheral
 pub mod PeripheralSet
+pub mod Addresses
 pub mod Cycle
 pub mod Answers
 pub mod Master

@@ -17,6 +17,8 @@ use Rattle.refusals.proofs.full.Kinds as K·full
 use Rattle.refusals.proofs.full.Reads as R·full
 use Rattle.refusals.proofs.address.Kinds as K·address
 use Rattle.refusals.proofs.address.Reads as R·address
+use Rattle.refusals.proofs.shared.Kinds as K·shared
+use Rattle.refusals.proofs.shared.Reads as R·shared
 use Rattle.refusals.proofs.length.Kinds as K·length
 use Rattle.refusals.proofs.length.Reads as R·length
 use Rattle.refusals.proofs.room.Kinds as K·room
@@ -48,6 +50,9 @@ full κs a z y e f p q = same p q
 
 pub address : Coincide 0 K·address.ps K·address.r R·address.Learnt (λ κs z y e f. z ≡ y)
 address κs a z y e f p q = same p q
+
+pub shared : Coincide 0 K·shared.ps K·shared.r R·shared.Learnt (λ κs z y e f. z ≡ y)
+shared κs a z y e f p q = same p q
 
 pub length : Coincide 0 K·length.ps K·length.r R·length.Learnt (λ κs z y e f. z ≡ y)
 length κs a z y e f p q = same p q

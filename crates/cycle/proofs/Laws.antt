@@ -41,22 +41,26 @@ module _ (l : Lengths) (z : lengthRefusal l ≡ 0) where
 
 -- ---- an add that has passed its rows
 
-module _ (u : Parameters) (lent : Lent) (slot address : ℕ) (l : Lengths) (z : addRefusal u lent slot address l ≡ 0) where
+module _ (u : Parameters) (lent : Lent) (slot address : ℕ) (elsewhere : Bool) (l : Lengths) (z : addRefusal u lent slot address elsewhere l ≡ 0) where
   pub lent-inputs : lent .inputs ≡ u .«input_pool»
   unfolding addRefusal
-  lent-inputs = eqb-true _ _ (not-false _ (passed (addRows u lent slot address l) refl z 1))
+  lent-inputs = eqb-true _ _ (not-false _ (passed (addRows u lent slot address elsewhere l) refl z 1))
 
   pub add-slot : slot < slots
   unfolding addRefusal
-  add-slot = leb-false slots slot (passed (addRows u lent slot address l) refl z 4)
+  add-slot = leb-false slots slot (passed (addRows u lent slot address elsewhere l) refl z 4)
 
   pub add-address : addressRefusal u address ≡ 0
   unfolding addRefusal addressRefusal
-  add-address = rw (passed (addRows u lent slot address l) refl z 5) refl
+  add-address = rw (passed (addRows u lent slot address elsewhere l) refl z 5) refl
+
+  pub add-shared : elsewhere ≡ false
+  unfolding addRefusal
+  add-shared = passed (addRows u lent slot address elsewhere l) refl z 6
 
   pub add-lengths : lengthRefusal l ≡ 0
   unfolding addRefusal lengthRefusal
-  add-lengths = passed-from (addRows u lent slot address l) refl z 6
+  add-lengths = passed-from (addRows u lent slot address elsewhere l) refl z 7
 
 -- ---- a turn and a reply that have passed theirs
 

@@ -1,8 +1,9 @@
 -- Which call is refused, and with which number: the rows of each call, of which the first that applies is the answer.
 -- From 01, "Refusal numbers".
 use Prim.Native.Nat.{ℕ}
+use mathlib.Core.Bool.{Bool}
 use mathlib.Core.List.{List, [], _∷_}
-use Rattle.refusals.specs.Table.{Row, maxUser, maxConfig, maxImage, maxRoom, lentRow, bufferRow, turnRow, fullRow, addressRow, lengthRow, askedRow, usableRow, firstOf}
+use Rattle.refusals.specs.Table.{Row, maxUser, maxConfig, maxImage, maxRoom, lentRow, bufferRow, turnRow, fullRow, addressRow, sharedRow, lengthRow, askedRow, usableRow, firstOf}
 use Rattle.fdl.specs.Status.{usableReply}
 use Rattle.fdl.specs.declared.parameters.Parameters.{Parameters}
 use Rattle.fdl.specs.declared.telegram.Telegram.{Telegram}
@@ -36,7 +37,7 @@ replyRows u s asked address t payload inputs diags =
 unfoldable pub replyRefusal : Parameters → DpMasterState → ℕ → ℕ → Telegram → ℕ → ℕ → ℕ → ℕ
 replyRefusal u s asked address t payload inputs diags = firstOf (replyRows u s asked address t payload inputs diags)
 
--- an address, which adding and a reset give a balance
+-- an address by itself, which adding and a reset give a balance
 unfoldable pub addressRefusal : Parameters → ℕ → ℕ
 addressRefusal u address = firstOf (addressRow address (u .address) ∷ [])
 
@@ -53,16 +54,17 @@ lengthRows l =
 unfoldable pub lengthRefusal : Lengths → ℕ
 lengthRefusal l = firstOf (lengthRows l)
 
--- an add, before its ranges have a place: what is lent, the table (slot is the first empty one), the address and the lengths
-abbrev pub addRows : Parameters → Lent → ℕ → ℕ → Lengths → List Row
-addRows u lent slot address l =
+-- an add, before its ranges have a place: what is lent, the table (slot is the first empty one), the address (and whether another balance has it) and the lengths
+abbrev pub addRows : Parameters → Lent → ℕ → ℕ → Bool → Lengths → List Row
+addRows u lent slot address elsewhere l =
     lentRow (lent .setup) (u .«setup_pool»)
     ∷ lentRow (lent .inputs) (u .«input_pool»)
     ∷ lentRow (lent .outputs) (u .«output_pool»)
     ∷ lentRow (lent .diags) (u .«diag_pool»)
     ∷ fullRow slot slots
     ∷ addressRow address (u .address)
+    ∷ sharedRow elsewhere
     ∷ lengthRows l
 
-unfoldable pub addRefusal : Parameters → Lent → ℕ → ℕ → Lengths → ℕ
-addRefusal u lent slot address l = firstOf (addRows u lent slot address l)
+unfoldable pub addRefusal : Parameters → Lent → ℕ → ℕ → Bool → Lengths → ℕ
+addRefusal u lent slot address elsewhere l = firstOf (addRows u lent slot address elsewhere l)

@@ -73,9 +73,16 @@ pub fn reply_refusal(
     refusals::usable(n, telegram.is_usable(payload))
 }
 
-// An add without its ranges: what is lent (2), the first empty `slot`, SLOTS for none (5), address (6), lengths (7).
-pub fn add_refusal(u: Parameters, lent: Lent, slot: usize, address: u8, l: Lengths) -> u8
-    ensures { λ r. ⌜ r ≡ addRefusal u lent slot address l ⌝ }
+// An add without its ranges: what is lent (2), the first empty `slot`, SLOTS for none (5), address, and whether it is another balance's (6), lengths (7).
+pub fn add_refusal(
+    u: Parameters,
+    lent: Lent,
+    slot: usize,
+    address: u8,
+    elsewhere: bool,
+    l: Lengths,
+) -> u8
+    ensures { λ r. ⌜ r ≡ addRefusal u lent slot address elsewhere l ⌝ }
 {
     let n = refusals::lent(DONE, lent.setup, u.setup_pool);
     let n = refusals::lent(n, lent.inputs, u.input_pool);
@@ -83,6 +90,7 @@ pub fn add_refusal(u: Parameters, lent: Lent, slot: usize, address: u8, l: Lengt
     let n = refusals::lent(n, lent.diags, u.diag_pool);
     let n = refusals::full(n, slot, SLOTS);
     let n = refusals::address(n, address, u.address);
+    let n = refusals::shared(n, elsewhere);
     let n = refusals::length(n, MAX_USER, l.user);
     let n = refusals::length(n, MAX_CONFIG, l.config);
     let n = refusals::length(n, MAX_IMAGE, l.inputs);

@@ -21,7 +21,7 @@ use Rattle.cycle.proofs.Laws.{lent-inputs, add-slot}
 use Rattle.master.proofs.Checks.{input-room, add-passed, room-passed}
 use Rattle.master.specs.declared.add.Addition.{Addition}
 use Rattle.master.specs.Pools.{poolLengths, lend, back, lendAll}
-use Rattle.master.specs.Add.{newcomer, cleared, lengthsOf, userOf, configOf}
+use Rattle.master.specs.Add.{newcomer, isShared, cleared, lengthsOf, userOf, configOf}
 use Rattle.valid.specs.Valid.{Valid, Beside, balance, occupied}
 use Rattle.valid.proofs.Balances.{open-there}
 use Rattle.log.specs.Calls.{World, add, added, addStep, addNumber}
@@ -54,7 +54,7 @@ module _ (w : World) (l : List Entry) (i : Inv w l) (a : Addition) (user config 
 
   below : t < slots
   below =
-      add-slot (w .unit .parameters) (poolLengths (lendAll lent (w .pools))) t (a .address) (lengthsOf a user config)
+      add-slot (w .unit .parameters) (poolLengths (lendAll lent (w .pools))) t (a .address) (isShared (w .unit) a) (lengthsOf a user config)
       (add-passed (w .unit) a (lengthsOf a user config) (lendAll lent (w .pools)) z)
 
   in-table : t < length (w .unit .peripherals)
@@ -73,7 +73,7 @@ module _ (w : World) (l : List Entry) (i : Inv w l) (a : Addition) (user config 
 
   pool-length : length lentPool ≡ w .unit .parameters .«input_pool»
   pool-length =
-      lent-inputs (w .unit .parameters) (poolLengths (lendAll lent (w .pools))) t (a .address) (lengthsOf a user config)
+      lent-inputs (w .unit .parameters) (poolLengths (lendAll lent (w .pools))) t (a .address) (isShared (w .unit) a) (lengthsOf a user config)
       (add-passed (w .unit) a (lengthsOf a user config) (lendAll lent (w .pools)) z)
 
   range-fits : fresh .ranges .inputs + fresh .ranges .«input_len» ≤ length lentPool

@@ -14,6 +14,7 @@ use Rattle.station.specs.Heard.{byFlags}
 use Rattle.peripheral.specs.Visit.{payloadOf}
 use Rattle.peripheral.specs.Response.{partFits, stationDiagnosed, fitsImage, answerTo, keepsOf, diagnosisAnswer, diagnosisKeeps}
 use Rattle.peripheral_set.specs.Marks.{slots, searchFrom}
+use Rattle.addresses.specs.Addresses.{elsewhereFrom}
 use Rattle.cycle.specs.State.{controlDue}
 use Rattle.cycle.specs.Refusal.{turnRefusal, replyRefusal}
 use Rattle.master.specs.Turn.{sweepFrom, sweptBy, turnPayload, turnAnswer}
@@ -34,28 +35,28 @@ use Rattle.log.specs.SecondLife.{pairBench, pairPools, callsOf, answersO
 use Rattle.log.specs.Life.{firstHalf, secondHalf, firstAnswers, secondAnswers, twoBalances, twoAnswers}
 
 pub first-half : answersTo (run bench benchPools [] .world) firstHalf ≡ firstAnswers
-unfolding step creationRefusal inForce createdOf emptyUnit refusalOf searchFrom turnRefusal controlDue actionOf sweptBy sweepFrom turnPayload turnAnswer controlPayload payloadOf paramHead inside part splice roomFor putIn replyRefusal replyAt answerTo keepsOf diagnosisAnswer diagnosisKeeps stationDiagnosed partFits fitsImage diagnosisOf withDiagnosis byFlags resetDone wishDone foundIn writeRefusal
+unfolding step creationRefusal inForce createdOf emptyUnit refusalOf elsewhereFrom searchFrom turnRefusal controlDue actionOf sweptBy sweepFrom turnPayload turnAnswer controlPayload payloadOf paramHead inside part splice roomFor putIn replyRefusal replyAt answerTo keepsOf diagnosisAnswer diagnosisKeeps stationDiagnosed partFits fitsImage diagnosisOf withDiagnosis byFlags resetDone wishDone foundIn writeRefusal
 first-half = refl
 
 pub second-half : answersTo (afterAll (run bench benchPools [] .world) firstHalf) secondHalf ≡ secondAnswers
-unfolding step creationRefusal inForce createdOf emptyUnit refusalOf searchFrom turnRefusal controlDue actionOf sweptBy sweepFrom turnPayload turnAnswer controlPayload payloadOf paramHead inside part splice roomFor putIn replyRefusal replyAt answerTo keepsOf diagnosisAnswer diagnosisKeeps stationDiagnosed partFits fitsImage diagnosisOf withDiagnosis byFlags resetDone wishDone foundIn writeRefusal
+unfolding step creationRefusal inForce createdOf emptyUnit refusalOf elsewhereFrom searchFrom turnRefusal controlDue actionOf sweptBy sweepFrom turnPayload turnAnswer controlPayload payloadOf paramHead inside part splice roomFor putIn replyRefusal replyAt answerTo keepsOf diagnosisAnswer diagnosisKeeps stationDiagnosed partFits fitsImage diagnosisOf withDiagnosis byFlags resetDone wishDone foundIn writeRefusal
 second-half = refl
 
 pub two-lives : answersTo (run smallBench noPools [] .world) twoBalances ≡ twoAnswers
-unfolding step creationRefusal inForce createdOf emptyUnit refusalOf searchFrom turnRefusal controlDue actionOf sweptBy sweepFrom turnPayload turnAnswer controlPayload payloadOf paramHead inside part splice roomFor putIn replyRefusal replyAt answerTo keepsOf diagnosisAnswer diagnosisKeeps stationDiagnosed partFits fitsImage diagnosisOf withDiagnosis byFlags resetDone wishDone foundIn writeRefusal
+unfolding step creationRefusal inForce createdOf emptyUnit refusalOf elsewhereFrom searchFrom turnRefusal controlDue actionOf sweptBy sweepFrom turnPayload turnAnswer controlPayload payloadOf paramHead inside part splice roomFor putIn replyRefusal replyAt answerTo keepsOf diagnosisAnswer diagnosisKeeps stationDiagnosed partFits fitsImage diagnosisOf withDiagnosis byFlags resetDone wishDone foundIn writeRefusal
 two-lives = refl
 
 -- the second life, in three parts
 pub second-together : answersTo (run pairBench pairPools [] .world) (callsOf offlineTogether) ≡ answersOf offlineTogether
-unfolding step creationRefusal inForce createdOf emptyUnit refusalOf searchFrom turnRefusal controlDue actionOf sweptBy sweepFrom turnPayload turnAnswer controlPayload payloadOf paramHead inside part splice roomFor putIn replyRefusal replyAt answerTo keepsOf diagnosisAnswer diagnosisKeeps stationDiagnosed partFits fitsImage diagnosisOf withDiagnosis byFlags resetDone wishDone foundIn writeRefusal
+unfolding step creationRefusal inForce createdOf emptyUnit refusalOf elsewhereFrom searchFrom turnRefusal controlDue actionOf sweptBy sweepFrom turnPayload turnAnswer controlPayload payloadOf paramHead inside part splice roomFor putIn replyRefusal replyAt answerTo keepsOf diagnosisAnswer diagnosisKeeps stationDiagnosed partFits fitsImage diagnosisOf withDiagnosis byFlags resetDone wishDone foundIn writeRefusal
 second-together = refl
 
 pub second-errors : answersTo (afterAll (run pairBench pairPools [] .world) (callsOf offlineTogether)) (callsOf setUpErrors) ≡ answersOf setUpErrors
-unfolding step creationRefusal inForce createdOf emptyUnit refusalOf searchFrom turnRefusal controlDue actionOf sweptBy sweepFrom turnPayload turnAnswer controlPayload payloadOf paramHead inside part splice roomFor putIn replyRefusal replyAt answerTo keepsOf diagnosisAnswer diagnosisKeeps stationDiagnosed partFits fitsImage diagnosisOf withDiagnosis byFlags resetDone wishDone foundIn writeRefusal
+unfolding step creationRefusal inForce createdOf emptyUnit refusalOf elsewhereFrom searchFrom turnRefusal controlDue actionOf sweptBy sweepFrom turnPayload turnAnswer controlPayload payloadOf paramHead inside part splice roomFor putIn replyRefusal replyAt answerTo keepsOf diagnosisAnswer diagnosisKeeps stationDiagnosed partFits fitsImage diagnosisOf withDiagnosis byFlags resetDone wishDone foundIn writeRefusal
 second-errors = refl
 
 pub second-wishes : answersTo (afterAll (afterAll (run pairBench pairPools [] .world) (callsOf offlineTogether)) (callsOf setUpErrors)) (callsOf wishedWhileOpen) ≡ answersOf wishedWhileOpen
-unfolding step creationRefusal inForce createdOf emptyUnit refusalOf searchFrom turnRefusal controlDue actionOf sweptBy sweepFrom turnPayload turnAnswer controlPayload payloadOf paramHead inside part splice roomFor putIn replyRefusal replyAt answerTo keepsOf diagnosisAnswer diagnosisKeeps stationDiagnosed partFits fitsImage diagnosisOf withDiagnosis byFlags resetDone wishDone foundIn writeRefusal
+unfolding step creationRefusal inForce createdOf emptyUnit refusalOf elsewhereFrom searchFrom turnRefusal controlDue actionOf sweptBy sweepFrom turnPayload turnAnswer controlPayload payloadOf paramHead inside part splice roomFor putIn replyRefusal replyAt answerTo keepsOf diagnosisAnswer diagnosisKeeps stationDiagnosed partFits fitsImage diagnosisOf withDiagnosis byFlags resetDone wishDone foundIn writeRefusal
 second-wishes = refl
 
 -- there are 32 slots
@@ -65,20 +66,20 @@ thirty-two = refl
 -- what stands in the pools at the end
 pub pools-then : _≡_ {A = Pools} (afterAll (afterAll (run bench benchPools [] .world) firstHalf) secondHalf .pools)
     (record { setup = 0 ∷ 1 ∷ 2 ∷ 0x31 ∷ []; inputs = 11 ∷ 22 ∷ []; outputs = 9 ∷ 6 ∷ []; diags = 0xAA ∷ 0xBB ∷ 0 ∷ 0 ∷ 0 ∷ 0 ∷ 0 ∷ 0 ∷ [] })
-unfolding step creationRefusal inForce createdOf emptyUnit refusalOf searchFrom turnRefusal controlDue actionOf sweptBy sweepFrom turnPayload turnAnswer controlPayload payloadOf paramHead inside part splice roomFor putIn replyRefusal replyAt answerTo keepsOf diagnosisAnswer diagnosisKeeps stationDiagnosed partFits fitsImage diagnosisOf withDiagnosis byFlags resetDone wishDone foundIn writeRefusal
+unfolding step creationRefusal inForce createdOf emptyUnit refusalOf elsewhereFrom searchFrom turnRefusal controlDue actionOf sweptBy sweepFrom turnPayload turnAnswer controlPayload payloadOf paramHead inside part splice roomFor putIn replyRefusal replyAt answerTo keepsOf diagnosisAnswer diagnosisKeeps stationDiagnosed partFits fitsImage diagnosisOf withDiagnosis byFlags resetDone wishDone foundIn writeRefusal
 pools-then = refl
 
 -- and at the end of the second: what came while a diagnosis was due was not stored
 pub second-pools : _≡_ {A = Pools} (afterAll (afterAll (afterAll (run pairBench pairPools [] .world) (callsOf offlineTogether)) (callsOf setUpErrors)) (callsOf wishedWhileOpen) .pools)
     (record { setup = 0xA1 ∷ 0xA2 ∷ 0x31 ∷ 0x10 ∷ []; inputs = 33 ∷ 44 ∷ 0 ∷ []; outputs = 0 ∷ 0 ∷ []; diags = [] })
-unfolding step creationRefusal inForce createdOf emptyUnit refusalOf searchFrom turnRefusal controlDue actionOf sweptBy sweepFrom turnPayload turnAnswer controlPayload payloadOf paramHead inside part splice roomFor putIn replyRefusal replyAt answerTo keepsOf diagnosisAnswer diagnosisKeeps stationDiagnosed partFits fitsImage diagnosisOf withDiagnosis byFlags resetDone wishDone foundIn writeRefusal
+unfolding step creationRefusal inForce createdOf emptyUnit refusalOf elsewhereFrom searchFrom turnRefusal controlDue actionOf sweptBy sweepFrom turnPayload turnAnswer controlPayload payloadOf paramHead inside part splice roomFor putIn replyRefusal replyAt answerTo keepsOf diagnosisAnswer diagnosisKeeps stationDiagnosed partFits fitsImage diagnosisOf withDiagnosis byFlags resetDone wishDone foundIn writeRefusal
 second-pools = refl
 
 -- what is promised happens: a balance is reached and asked for data, and its image is what it sent
 pub life-asked : let a = turnOf (step (run bench benchPools configured .world) (turnAt 9) .answer) in T (reached (run bench benchPools configured .log) a 0) × T (asksData 0 (a .transmission))
-unfolding step creationRefusal inForce createdOf emptyUnit refusalOf searchFrom turnRefusal controlDue actionOf sweptBy sweepFrom turnPayload turnAnswer controlPayload payloadOf paramHead inside part splice roomFor putIn replyRefusal replyAt answerTo keepsOf diagnosisAnswer diagnosisKeeps stationDiagnosed partFits fitsImage diagnosisOf withDiagnosis byFlags resetDone wishDone foundIn writeRefusal
+unfolding step creationRefusal inForce createdOf emptyUnit refusalOf elsewhereFrom searchFrom turnRefusal controlDue actionOf sweptBy sweepFrom turnPayload turnAnswer controlPayload payloadOf paramHead inside part splice roomFor putIn replyRefusal replyAt answerTo keepsOf diagnosisAnswer diagnosisKeeps stationDiagnosed partFits fitsImage diagnosisOf withDiagnosis byFlags resetDone wishDone foundIn writeRefusal
 life-asked = (tt, tt)
 
 pub life-exchanged : imageIn (run bench benchPools exchanged .world) 0 ≡ 11 ∷ 22 ∷ []
-unfolding step creationRefusal inForce createdOf emptyUnit refusalOf searchFrom turnRefusal controlDue actionOf sweptBy sweepFrom turnPayload turnAnswer controlPayload payloadOf paramHead inside part splice roomFor putIn replyRefusal replyAt answerTo keepsOf diagnosisAnswer diagnosisKeeps stationDiagnosed partFits fitsImage diagnosisOf withDiagnosis byFlags resetDone wishDone foundIn writeRefusal
+unfolding step creationRefusal inForce createdOf emptyUnit refusalOf elsewhereFrom searchFrom turnRefusal controlDue actionOf sweptBy sweepFrom turnPayload turnAnswer controlPayload payloadOf paramHead inside part splice roomFor putIn replyRefusal replyAt answerTo keepsOf diagnosisAnswer diagnosisKeeps stationDiagnosed partFits fitsImage diagnosisOf withDiagnosis byFlags resetDone wishDone foundIn writeRefusal
 life-exchanged = refl

@@ -32,7 +32,7 @@ use Rattle.log.specs.Notes.{turnOf, slotAsked, reportedOffline}
 use Rattle.log.specs.Entries.{Entry, slotLog, Frame, frameOf, occupiedIn, Moved, reached}
 use Rattle.log.specs.Words.{dueOf, imageOf, asksData}
 use Rattle.log.specs.Run.{run}
-use Rattle.log.specs.Promises.{ImageTold, FrameTold, AskedTold, ReachedTold, Masked, MaskTold, FirstTold, NextTold, NeverOverlap}
+use Rattle.log.specs.Promises.{ImageTold, FrameTold, AskedTold, ReachedTold, Masked, MaskTold, FirstTold, NextTold, NeverOverlap, AddressesDiffer}
 use Rattle.log.proofs.Wording.{is-true, ready, wording, due-wording}
 use Rattle.log.proofs.Steps.{turn-accepted, reply-accepted, refused-same, valid-step, always-valid}
 use Rattle.log.proofs.Lives.{Lives}
@@ -149,6 +149,11 @@ pub never-overlap : NeverOverlap
 never-overlap u pools cs s t h k d =
     let i = inv-run u pools cs in
     i .valid .apart s t (there (run u pools cs .world) (run u pools cs .log) i s h) (there (run u pools cs .world) (run u pools cs .log) i t k) d
+
+pub addresses-differ : AddressesDiffer
+addresses-differ u pools cs s t h k d =
+    let i = inv-run u pools cs in
+    i .valid .differ s t (there (run u pools cs .world) (run u pools cs .log) i s h) (there (run u pools cs .world) (run u pools cs .log) i t k) d
 
 -- a refused turn reaches nobody
 refused-reaches : (l : List Entry) (n s : ℕ) → reached l (refusedTurn n) s ≡ false

@@ -80,7 +80,7 @@ done-same n changed w e = rw e refl
 reset-same : (w : World) (h : PeripheralHandle) (address : ℕ) → eqb (resetDone (w .unit) h address .refusal) 0 ≡ false → doneStep (resetDone (w .unit) h address) w .world ≡ w
 unfolding resetDone
 reset-same w h address e =
-    done-same (resetRefusal (w .unit .parameters) (w .unit .occupied) h address)
+    done-same (resetRefusal (w .unit .parameters) (w .unit .occupied) (w .unit .peripherals) h address)
     (stateIs (closedFor (h .slot) (w .unit .state)) (balanceIs (h .slot) (resetOf (balanceAt (w .unit .peripherals) (h .slot)) address) (w .unit))) w e
 
 wish-same : (w : World) (h : PeripheralHandle) → eqb (wishDone (w .unit) h .refusal) 0 ≡ false → doneStep (wishDone (w .unit) h) w .world ≡ w

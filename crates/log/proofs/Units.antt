@@ -180,6 +180,6 @@ module _ (w : World) (l : List Entry) (i : Inv w l) where
       → InvAt (reset h address) (doneStep (resetDone (w .unit) h address) w .answer) (doneStep (resetDone (w .unit) h address) w .world) l
   unfolding resetDone
   inv-reset h address e v =
-      let n = eqb-true (resetRefusal (w .unit .parameters) (w .unit .occupied) h address) 0 e in
-      let z = reset-handle (w .unit .parameters) (w .unit .occupied) h address n in
+      let n = eqb-true (resetRefusal (w .unit .parameters) (w .unit .occupied) (w .unit .peripherals) h address) 0 e in
+      let z = reset-handle (w .unit .parameters) (w .unit .occupied) (w .unit .peripherals) h address n in
       rw (e, index-is (w .unit) h z) (reset-at h address _ (eqb (w .unit .state .«open_slot») (h .slot)) refl (handle-there (w .unit) h z) (rw (e, index-is (w .unit) h z) at v))

@@ -17,6 +17,7 @@ use Rattle.station.specs.Heard.{byFlags}
 use Rattle.peripheral.specs.Visit.{payloadOf}
 use Rattle.peripheral.specs.Response.{partFits, stationDiagnosed, fitsImage, answerTo, keepsOf, diagnosisAnswer, diagnosisKeeps}
 use Rattle.peripheral_set.specs.Marks.{slots, searchFrom}
+use Rattle.addresses.specs.Addresses.{elsewhereFrom}
 use Rattle.cycle.specs.State.{controlDue}
 use Rattle.cycle.specs.Refusal.{turnRefusal, replyRefusal}
 use Rattle.answers.specs.declared.turn.TurnAnswer.{TurnAnswer}
@@ -49,39 +50,39 @@ apart f x y a b p q d e = d (sym p ∙ ap f e ∙ q)
 
 -- refusing everything: the first turn of a bench is done
 pub refuses-all : refusesAll startedBench (turnAt 0) ≡ step startedBench (turnAt 0) → ⊥
-unfolding step creationRefusal inForce createdOf emptyUnit refusalOf searchFrom turnRefusal controlDue actionOf sweptBy sweepFrom turnPayload turnAnswer controlPayload payloadOf paramHead inside part splice roomFor putIn replyRefusal replyAt answerTo keepsOf diagnosisAnswer diagnosisKeeps stationDiagnosed partFits fitsImage diagnosisOf withDiagnosis byFlags
+unfolding step creationRefusal inForce createdOf emptyUnit refusalOf elsewhereFrom searchFrom turnRefusal controlDue actionOf sweptBy sweepFrom turnPayload turnAnswer controlPayload payloadOf paramHead inside part splice roomFor putIn replyRefusal replyAt answerTo keepsOf diagnosisAnswer diagnosisKeeps stationDiagnosed partFits fitsImage diagnosisOf withDiagnosis byFlags
 refuses-all = apart (λ o. refusal (o .answer)) (refusesAll startedBench (turnAt 0)) (step startedBench (turnAt 0)) 2 0 refl refl (λ e. omega arith)
 
 -- the same answer each time: the first turn in Operate sends the global control
 pub same-answer : sameAnswer startedBench (turnAt 0) ≡ step startedBench (turnAt 0) → ⊥
-unfolding step creationRefusal inForce createdOf emptyUnit refusalOf searchFrom turnRefusal controlDue actionOf sweptBy sweepFrom turnPayload turnAnswer controlPayload payloadOf paramHead inside part splice roomFor putIn replyRefusal replyAt answerTo keepsOf diagnosisAnswer diagnosisKeeps stationDiagnosed partFits fitsImage diagnosisOf withDiagnosis byFlags
+unfolding step creationRefusal inForce createdOf emptyUnit refusalOf elsewhereFrom searchFrom turnRefusal controlDue actionOf sweptBy sweepFrom turnPayload turnAnswer controlPayload payloadOf paramHead inside part splice roomFor putIn replyRefusal replyAt answerTo keepsOf diagnosisAnswer diagnosisKeeps stationDiagnosed partFits fitsImage diagnosisOf withDiagnosis byFlags
 same-answer = apart (λ o. sends (turnOf (o .answer) .transmission)) (sameAnswer startedBench (turnAt 0)) (step startedBench (turnAt 0)) 0 1 refl refl (λ e. omega arith)
 
 -- doing nothing: a turn records its time
 pub does-nothing : doesNothing startedBench (turnAt 5) ≡ step startedBench (turnAt 5) → ⊥
-unfolding step creationRefusal inForce createdOf emptyUnit refusalOf searchFrom turnRefusal controlDue actionOf sweptBy sweepFrom turnPayload turnAnswer controlPayload payloadOf paramHead inside part splice roomFor putIn replyRefusal replyAt answerTo keepsOf diagnosisAnswer diagnosisKeeps stationDiagnosed partFits fitsImage diagnosisOf withDiagnosis byFlags
+unfolding step creationRefusal inForce createdOf emptyUnit refusalOf elsewhereFrom searchFrom turnRefusal controlDue actionOf sweptBy sweepFrom turnPayload turnAnswer controlPayload payloadOf paramHead inside part splice roomFor putIn replyRefusal replyAt answerTo keepsOf diagnosisAnswer diagnosisKeeps stationDiagnosed partFits fitsImage diagnosisOf withDiagnosis byFlags
 does-nothing = apart (λ o. o .world .unit .state .«last_turn») (doesNothing startedBench (turnAt 5)) (step startedBench (turnAt 5)) 0 5 refl refl (λ e. omega arith)
 
 -- running all states at the first reply: a diagnosis taken in Offline gives WaitForParam
 pub runs-all : runsAll askedBench diagnosisReply ≡ step askedBench diagnosisReply → ⊥
-unfolding step creationRefusal inForce createdOf emptyUnit refusalOf searchFrom turnRefusal controlDue actionOf sweptBy sweepFrom turnPayload turnAnswer controlPayload payloadOf paramHead inside part splice roomFor putIn replyRefusal replyAt answerTo keepsOf diagnosisAnswer diagnosisKeeps stationDiagnosed partFits fitsImage diagnosisOf withDiagnosis byFlags
+unfolding step creationRefusal inForce createdOf emptyUnit refusalOf elsewhereFrom searchFrom turnRefusal controlDue actionOf sweptBy sweepFrom turnPayload turnAnswer controlPayload payloadOf paramHead inside part splice roomFor putIn replyRefusal replyAt answerTo keepsOf diagnosisAnswer diagnosisKeeps stationDiagnosed partFits fitsImage diagnosisOf withDiagnosis byFlags
 runs-all = apart (λ o. balanceAt (o .world .unit .peripherals) 0 .station .state) (runsAll askedBench diagnosisReply) (step askedBench diagnosisReply) 5 1 refl refl (λ e. omega arith)
 
 -- an invented Offline mask: nobody was visited
 pub invents-mask : inventsMask startedBench (turnAt 0) ≡ step startedBench (turnAt 0) → ⊥
-unfolding step creationRefusal inForce createdOf emptyUnit refusalOf searchFrom turnRefusal controlDue actionOf sweptBy sweepFrom turnPayload turnAnswer controlPayload payloadOf paramHead inside part splice roomFor putIn replyRefusal replyAt answerTo keepsOf diagnosisAnswer diagnosisKeeps stationDiagnosed partFits fitsImage diagnosisOf withDiagnosis byFlags
+unfolding step creationRefusal inForce createdOf emptyUnit refusalOf elsewhereFrom searchFrom turnRefusal controlDue actionOf sweptBy sweepFrom turnPayload turnAnswer controlPayload payloadOf paramHead inside part splice roomFor putIn replyRefusal replyAt answerTo keepsOf diagnosisAnswer diagnosisKeeps stationDiagnosed partFits fitsImage diagnosisOf withDiagnosis byFlags
 invents-mask = apart (λ o. turnOf (o .answer) .offline) (inventsMask startedBench (turnAt 0)) (step startedBench (turnAt 0)) 4 0 refl refl (λ e. omega arith)
 
 -- the fourth breaks demand 3: it asks for data where no parameters were acknowledged
 pub runs-all-breaks : AskedBy runsAll → ⊥
-unfolding step creationRefusal inForce createdOf emptyUnit refusalOf searchFrom turnRefusal controlDue actionOf sweptBy sweepFrom turnPayload turnAnswer controlPayload payloadOf paramHead inside part splice roomFor putIn replyRefusal replyAt answerTo keepsOf diagnosisAnswer diagnosisKeeps stationDiagnosed partFits fitsImage diagnosisOf withDiagnosis byFlags
+unfolding step creationRefusal inForce createdOf emptyUnit refusalOf elsewhereFrom searchFrom turnRefusal controlDue actionOf sweptBy sweepFrom turnPayload turnAnswer controlPayload payloadOf paramHead inside part splice roomFor putIn replyRefusal replyAt answerTo keepsOf diagnosisAnswer diagnosisKeeps stationDiagnosed partFits fitsImage diagnosisOf withDiagnosis byFlags
 runs-all-breaks told =
     let both = told bench benchPools diagnosisAnswered 3 false 4 2 (zeros 244) 0 tt tt .0 tt in
     wording (slotLog 0 (runBy runsAll bench benchPools diagnosisAnswered .log)) .1 (both .1)
 
 -- the fifth breaks the mask: bit 2 is set, and nobody was reached
 pub invents-mask-breaks : MaskBy inventsMask → ⊥
-unfolding step creationRefusal inForce createdOf emptyUnit refusalOf searchFrom turnRefusal controlDue actionOf sweptBy sweepFrom turnPayload turnAnswer controlPayload payloadOf paramHead inside part splice roomFor putIn replyRefusal replyAt answerTo keepsOf diagnosisAnswer diagnosisKeeps stationDiagnosed partFits fitsImage diagnosisOf withDiagnosis byFlags
+unfolding step creationRefusal inForce createdOf emptyUnit refusalOf elsewhereFrom searchFrom turnRefusal controlDue actionOf sweptBy sweepFrom turnPayload turnAnswer controlPayload payloadOf paramHead inside part splice roomFor putIn replyRefusal replyAt answerTo keepsOf diagnosisAnswer diagnosisKeeps stationDiagnosed partFits fitsImage diagnosisOf withDiagnosis byFlags
 invents-mask-breaks told = false≢true (sym (told bench benchPools started 0 false 4 2 (zeros 244) .bits 2))
 
 -- ---- over an empty log demand 3 admits every unit

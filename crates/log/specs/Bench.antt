@@ -44,12 +44,12 @@ bench =
 abbrev pub benchPools : Pools
 benchPools = record { setup = zeros 4; inputs = zeros 2; outputs = zeros 2; diags = zeros 8 }
 
--- a balance at address 7 with three bytes of user parameters, one of configuration, images of 2 bytes, and so many bytes of the set-up pool lent
-abbrev pub addWith : ℕ → Call
-addWith lent =
+-- a balance at an address with three bytes of user parameters, one of configuration, images of 2 bytes, and so many bytes of the set-up pool lent
+abbrev pub addBench : ℕ → ℕ → Call
+addBench address lent =
     add
     (record {
-      address = 7;
+      address = address;
       options =
           record {
             «ident_number» = 0x1234;
@@ -68,6 +68,10 @@ addWith lent =
       room = 8;
     })
     (0 ∷ 1 ∷ 2 ∷ []) (0x31 ∷ []) (record { setup = lent; inputs = 2; outputs = 2; diags = 8 })
+
+-- the balance of the bench
+abbrev pub addWith : ℕ → Call
+addWith lent = addBench 7 lent
 
 -- a turn at that time
 abbrev pub turnAt : ℕ → Call

@@ -6,7 +6,7 @@ use Rattle.fdl.specs.declared.consts.Sap.the-variants.{Absent, At}
 use Rattle.fdl.specs.declared.telegram.Telegram.the-variants.{ShortConfirmation, Data}
 use Rattle.cycle.specs.declared.state.OperatingState.the-variants.{Stop, Clear, Operate}
 use Rattle.log.specs.Calls.{Call, enter, reply, reset, wish, write, hand}
-use Rattle.log.specs.Bench.{addWith, turnAt, diagnosisReply, acknowledgement, handleTo, benchReply, addAt, smallTurn, smallReply}
+use Rattle.log.specs.Bench.{addBench, addWith, turnAt, diagnosisReply, acknowledgement, handleTo, benchReply, addAt, smallTurn, smallReply}
 
 -- ---- one life in calls, oldest first
 
@@ -24,6 +24,7 @@ firstHalf =
     ∷ addWith 3
     ∷ addWith 4
     ∷ addWith 4
+    ∷ addBench 8 4
     ∷ write (handleTo 0) (5 ∷ 6 ∷ []) 2
     ∷ write (handleTo 0) (5 ∷ []) 2
     ∷ hand (handleTo 0) (9 ∷ []) 2
@@ -83,6 +84,7 @@ firstAnswers =
     (0 ∷ [])
     ∷ (2 ∷ 255 ∷ 255 ∷ [])
     ∷ (0 ∷ 0 ∷ 7 ∷ [])
+    ∷ (6 ∷ 255 ∷ 255 ∷ [])
     ∷ (8 ∷ 255 ∷ 255 ∷ [])
     ∷ (0 ∷ [])
     ∷ (11 ∷ [])

@@ -145,6 +145,11 @@ abbrev pub NeverOverlap : Type 0
 NeverOverlap = (u : Parameters) (pools : Pools) (cs : List Call) (s t : ℕ) → T (occupiedIn (run u pools cs .log) s) → T (occupiedIn (run u pools cs .log) t)
     → (s ≡ t → ⊥) → Apart (balance (run u pools cs .world .unit) s) (balance (run u pools cs .world .unit) t)
 
+-- the addresses of two different slots that the log says are occupied differ
+abbrev pub AddressesDiffer : Type 0
+AddressesDiffer = (u : Parameters) (pools : Pools) (cs : List Call) (s t : ℕ) → T (occupiedIn (run u pools cs .log) s) → T (occupiedIn (run u pools cs .log) t)
+    → (s ≡ t → ⊥) → balance (run u pools cs .world .unit) s .station .address ≡ balance (run u pools cs .world .unit) t .station .address → ⊥
+
 -- ---- how the functions stand to `step` and `run`
 
 -- whatever the contract of a function allows is what `step` says

@@ -12,14 +12,14 @@ use Rattle.master.specs.declared.unit.DpMaster.{DpMaster}
 use Rattle.master.specs.declared.add.Addition.{Addition}
 use Rattle.master.specs.declared.add.Added.{Added}
 use Rattle.master.specs.Pools.{Pools, poolsOf, poolLengths}
-use Rattle.master.specs.Add.{newcomer, roomRefusal, refusalOf, setupAfter, cleared, unitAdded, Adds}
+use Rattle.master.specs.Add.{newcomer, isShared, roomRefusal, refusalOf, setupAfter, cleared, unitAdded, Adds}
 use Rattle.master.proofs.Checks.{in-two}
 
 module _ (m : DpMaster) (a : Addition) (l : Lengths) (user config : List ℕ) (pools : Pools) where
   refused : (n : ℕ) → refusalOf m a l pools ≡ n → (n ≡ 0 → ⊥) → Adds (refusalOf m a l pools) (newcomer m a l) m user config pools pools (record { refusal = n; handle = noHandle; master = m })
   refused n en h = let e = ne-eqb n 0 h in record { refusal = sym en; handle = rw (en, e) refl; after = rw (en, e) refl; written = rw (en, e) refl }
 
-  module _ (n : ℕ) (en : n ≡ addRefusal (m .parameters) (poolLengths pools) (firstEmpty (m .occupied)) (a .address) l) where
+  module _ (n : ℕ) (en : n ≡ addRefusal (m .parameters) (poolLengths pools) (firstEmpty (m .occupied)) (a .address) (isShared m a) l) where
     -- before its ranges have a place
     pub add-refused : (r : Added) → (n ≡ 0 → ⊥) → r ≡ record { refusal = n; handle = noHandle; master = m } → Adds (refusalOf m a l pools) (newcomer m a l) m user config pools pools r
     unfolding orElse

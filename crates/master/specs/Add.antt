@@ -2,7 +2,7 @@
 -- From 01, "The unit and its sizes" ("Adding takes the first empty slot, ..") with the refusals of "Refusal numbers".
 use mathlib.Core.Path.{_≡_}
 use Prim.Native.Nat.{ℕ, _+_}
-use mathlib.Core.Bool.{true, cond}
+use mathlib.Core.Bool.{Bool, true, cond}
 use mathlib.Core.List.{List, [], _∷_, _++_}
 use lib.ListN.{length, set}
 use lib.Dec.{eqb}
@@ -14,6 +14,7 @@ use Rattle.peripheral.specs.declared.record.Ranges.{Ranges}
 use Rattle.peripheral.specs.declared.record.Peripheral.{Peripheral}
 use Rattle.peripheral.specs.Record.{newBalance}
 use Rattle.peripheral_set.specs.Marks.{noHandle, firstEmpty}
+use Rattle.addresses.specs.Addresses.{elsewhere}
 use Rattle.cycle.specs.declared.refusal.Lengths.{Lengths}
 use Rattle.cycle.specs.Refusal.{addRows}
 use Rattle.master.specs.declared.unit.DpMaster.{DpMaster}
@@ -83,10 +84,14 @@ roomRows u p =
 unfoldable pub roomRefusal : Parameters → Peripheral → ℕ
 roomRefusal u p = firstOf (roomRows u p)
 
+-- another balance has the address: the new one has no slot yet, so every occupied slot is another's
+abbrev pub isShared : DpMaster → Addition → Bool
+isShared m a = elsewhere (m .occupied) (m .peripherals) (firstEmpty (m .occupied)) (a .address)
+
 -- what is lent, the table, the address and the lengths, and then the ranges
 unfoldable pub refusalOf : DpMaster → Addition → Lengths → Pools → ℕ
 refusalOf m a l pools =
-    firstOf (addRows (m .parameters) (poolLengths pools) (firstEmpty (m .occupied)) (a .address) l ++ roomRows (m .parameters) (newcomer m a l))
+    firstOf (addRows (m .parameters) (poolLengths pools) (firstEmpty (m .occupied)) (a .address) (isShared m a) l ++ roomRows (m .parameters) (newcomer m a l))
 
 -- ---- what is left
 

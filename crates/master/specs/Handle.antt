@@ -5,25 +5,26 @@ use mathlib.Core.Bool.{Bool, true, cond}
 use mathlib.Core.List.{List, [], _∷_}
 use lib.ListN.{set}
 use lib.Dec.{eqb}
-use Rattle.refusals.specs.Table.{Row, handleRow, addressRow, firstOf}
+use Rattle.refusals.specs.Table.{Row, handleRow, addressRow, sharedRow, firstOf}
 use Rattle.fdl.specs.declared.parameters.Parameters.{Parameters}
 use Rattle.station.specs.Record.{dueIs}
 use Rattle.peripheral.specs.declared.record.Peripheral.{Peripheral}
 use Rattle.peripheral.specs.Record.{resetOf, stationIs}
 use Rattle.peripheral_set.specs.declared.PeripheralHandle.{PeripheralHandle}
 use Rattle.peripheral_set.specs.Marks.{isOccupied, handleRefusal}
+use Rattle.addresses.specs.Addresses.{elsewhere}
 use Rattle.cycle.specs.Seen.{indexOf}
 use Rattle.cycle.specs.State.{closedFor}
 use Rattle.master.specs.declared.unit.DpMaster.{DpMaster}
 use Rattle.master.specs.declared.unit.Done.{Done}
 use Rattle.master.specs.Unit.{stateIs, balancesAre, balanceAt}
 
--- a reset: the handle, then the address
-abbrev pub resetRows : Parameters → List Bool → PeripheralHandle → ℕ → List Row
-resetRows u marks h address = handleRow (isOccupied marks (h .slot)) ∷ addressRow address (u .address) ∷ []
+-- a reset: the handle, then the address, which may be the balance's own but no other's
+abbrev pub resetRows : Parameters → List Bool → List Peripheral → PeripheralHandle → ℕ → List Row
+resetRows u marks all h address = handleRow (isOccupied marks (h .slot)) ∷ addressRow address (u .address) ∷ sharedRow (elsewhere marks all (h .slot) address) ∷ []
 
-abbrev pub resetRefusal : Parameters → List Bool → PeripheralHandle → ℕ → ℕ
-resetRefusal u marks h address = firstOf (resetRows u marks h address)
+abbrev pub resetRefusal : Parameters → List Bool → List Peripheral → PeripheralHandle → ℕ → ℕ
+resetRefusal u marks all h address = firstOf (resetRows u marks all h address)
 
 -- the unit with another balance in a slot
 abbrev pub balanceIs : ℕ → Peripheral → DpMaster → DpMaster
@@ -36,7 +37,7 @@ doneBy n changed m = record { refusal = n; master = cond (eqb n 0) changed m }
 -- `reset_address` closes that balance's request
 unfoldable pub resetDone : DpMaster → PeripheralHandle → ℕ → Done
 resetDone m h address =
-    doneBy (resetRefusal (m .parameters) (m .occupied) h address)
+    doneBy (resetRefusal (m .parameters) (m .occupied) (m .peripherals) h address)
     (stateIs (closedFor (h .slot) (m .state)) (balanceIs (h .slot) (resetOf (balanceAt (m .peripherals) (h .slot)) address) m)) m
 
 unfoldable pub wishDone : DpMaster → PeripheralHandle → Done

@@ -29,7 +29,7 @@ pub struct Added {
 
 // What a call adds, beside its set-up data: absent data has the length 0 whatever is lent, and the two lengths in the options are not looked at. DECISIONS 14, 28
 pub struct Addition {
-    // Address of the balance on the bus, 0 to 125 and not the master's own.
+    // Address of the balance on the bus, 0 to 125, not the master's own and no other balance's.
     pub address: u8,
     // Ident, modes, groups, and whether user parameters and configuration are present.
     pub options: PeripheralOptions,
@@ -153,6 +153,7 @@ impl DpMaster {
     {
         let u = self.parameters;
         let marks = self.occupied;
+        let all = self.peripherals;
         let options = a.options;
         let user_data = present(options.has_user_parameters, user);
         let config_data = present(options.has_config, config);
@@ -170,7 +171,8 @@ impl DpMaster {
             diags: diags.len(),
         };
         let slot = peripheral_set::first_empty(marks);
-        let refusal = cycle::refusal::add_refusal(u, lent, slot, a.address, l);
+        let elsewhere = addresses::taken_elsewhere(marks, all, slot, a.address);
+        let refusal = cycle::refusal::add_refusal(u, lent, slot, a.address, elsewhere, l);
         if refusal != DONE {
             return Added {
                 refusal: refusal,

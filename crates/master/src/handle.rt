@@ -4,19 +4,28 @@ ghost use Rattle.master.specs.Handle.{resetRefusal, resetDone, wishDone}
 use crate::unit::Done;
 use crate::unit::DpMaster;
 use fdl::parameters::Parameters;
+use peripheral::record::Peripheral;
 use peripheral_set::PeripheralHandle;
 use peripheral_set::SLOTS;
 
-// A reset: the handle, then the address.
-fn reset_refusal(u: Parameters, marks: [bool; SLOTS], handle: PeripheralHandle, address: u8) -> u8
-    ensures { λ r. ⌜ r ≡ resetRefusal u marks handle address ⌝ }
+// A reset: the handle, then the address, which may be the balance's own but no other's.
+fn reset_refusal(
+    u: Parameters,
+    marks: [bool; SLOTS],
+    all: [Peripheral; SLOTS],
+    handle: PeripheralHandle,
+    address: u8,
+) -> u8
+    ensures { λ r. ⌜ r ≡ resetRefusal u marks all handle address ⌝ }
 {
+    let elsewhere = addresses::taken_elsewhere(marks, all, parts::widen8(handle.slot), address);
     let n = handle.refusal(marks);
-    refusals::address(n, address, u.address)
+    let n = refusals::address(n, address, u.address);
+    refusals::shared(n, elsewhere)
 }
 
 impl DpMaster {
-    // The balance starts anew at another address, and its open request is closed.
+    // The balance starts anew at another address, or at its own, and its open request is closed.
     // Refuses: resetRows.
     // Changes: of the balance address, state, count, frame bit and diagnosis; set-up data, images and all bytes stay.
     pub fn reset_address(self, handle: PeripheralHandle, address: u8) -> Done
@@ -25,7 +34,8 @@ impl DpMaster {
         let u = self.parameters;
         let s = self.state;
         let marks = self.occupied;
-        let refusal = reset_refusal(u, marks, handle, address);
+        let all = self.peripherals;
+        let refusal = reset_refusal(u, marks, all, handle, address);
         if refusal != 0 {
             return Done {
                 refusal: refusal,

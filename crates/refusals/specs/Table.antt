@@ -117,6 +117,10 @@ fullRow slot slots = record { number = tableFull; applies = leb slots slot }
 abbrev pub addressRow : ℕ → ℕ → Row
 addressRow address own = record { number = badAddress; applies = ltb maxAddress address || eqb address own }
 
+-- add or reset: the address of another occupied slot
+abbrev pub sharedRow : Bool → Row
+sharedRow elsewhere = record { number = badAddress; applies = elsewhere }
+
 -- add: a length above its limit
 abbrev pub lengthRow : ℕ → ℕ → Row
 lengthRow limit len = record { number = tooLong; applies = ltb limit len }

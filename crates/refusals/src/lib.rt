@@ -2,7 +2,7 @@
 // Every call's refusal is a run of these rows in the table's order; each is given the number so far, so that the first that applies is the answer.
 ghost use mathlib.Core.Path.{_≡_};
 ghost use mathlib.Core.Bool.{cond, _||_};
-ghost use Rattle.refusals.specs.Table.{orElse, said, parameterRow, lentRow, bufferRow, turnRow, handleRow, fullRow, addressRow, lengthRow, roomRow, askedRow, usableRow, writeRow};
+ghost use Rattle.refusals.specs.Table.{orElse, said, parameterRow, lentRow, bufferRow, turnRow, handleRow, fullRow, addressRow, sharedRow, lengthRow, roomRow, askedRow, usableRow, writeRow};
 
 // The numbers. The definitions say them and the limits again.
 
@@ -24,7 +24,7 @@ pub const BAD_HANDLE: u8 = 4;
 // 5: add, all 32 slots are occupied.
 pub const TABLE_FULL: u8 = 5;
 
-// 6: add or reset, an address above 125 or the master's own.
+// 6: add or reset, an address above 125, the master's own, or that of another occupied slot.
 pub const BAD_ADDRESS: u8 = 6;
 
 // 7: add, a length above its limit.
@@ -145,6 +145,13 @@ pub fn address(so_far: u8, address: u8, own: u8) -> u8
         either(MAX_ADDRESS < address, address == own),
         BAD_ADDRESS,
     )
+}
+
+// 6: the address of another occupied slot.
+pub fn shared(so_far: u8, elsewhere: bool) -> u8
+    ensures { λ r. ⌜ r ≡ orElse «so_far» (said (sharedRow elsewhere)) ⌝ }
+{
+    number(so_far, elsewhere, BAD_ADDRESS)
 }
 
 // 7: a length above its limit.

@@ -12,6 +12,7 @@ use Rattle.station.specs.Heard.{byFlags}
 use Rattle.peripheral.specs.Visit.{payloadOf}
 use Rattle.peripheral.specs.Response.{partFits, stationDiagnosed, fitsImage, answerTo, keepsOf, diagnosisAnswer, diagnosisKeeps}
 use Rattle.peripheral_set.specs.Marks.{searchFrom}
+use Rattle.addresses.specs.Addresses.{elsewhereFrom}
 use Rattle.cycle.specs.State.{controlDue}
 use Rattle.cycle.specs.Refusal.{turnRefusal, replyRefusal}
 use Rattle.master.specs.Unit.{emptyUnit, createdOf}
@@ -22,5 +23,5 @@ use Rattle.log.specs.Calls.{step}
 use Rattle.trial_table.specs.Table.{table, lineOf, marked, expectedIn}
 
 pub rows-hold : map lineOf table ≡ expectedIn marked table
-unfolding step creationRefusal inForce createdOf emptyUnit refusalOf part inside putIn roomFor splice paramHead controlPayload diagnosisOf withDiagnosis actionOf byFlags payloadOf answerTo keepsOf diagnosisAnswer diagnosisKeeps stationDiagnosed partFits fitsImage searchFrom controlDue turnRefusal replyRefusal sweepFrom sweptBy turnPayload turnAnswer replyAt
+unfolding step creationRefusal inForce createdOf emptyUnit refusalOf elsewhereFrom part inside putIn roomFor splice paramHead controlPayload diagnosisOf withDiagnosis actionOf byFlags payloadOf answerTo keepsOf diagnosisAnswer diagnosisKeeps stationDiagnosed partFits fitsImage searchFrom controlDue turnRefusal replyRefusal sweepFrom sweptBy turnPayload turnAnswer replyAt
 rows-hold = refl

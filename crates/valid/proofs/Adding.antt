@@ -1,5 +1,5 @@
 -- An add keeps a unit valid.
--- The idea: the new ranges lie in their pools since no row of the table applied; they start where the used parts end, so they are apart from every other.
+-- The idea: the new ranges lie in their pools since no row of the table applied; they start where the used parts end, so they are apart from every other; and no other balance has the new one's address.
 use mathlib.Core.Path.{_≡_, refl, sym, _∙_, subst}
 use mathlib.Core.Bool.{true, false, false≢true}
 use mathlib.Core.Logic.{_⊎_, inl, inr, ⊎-elim}
@@ -9,24 +9,25 @@ use native.Mathlib.Omega.{arith}
 use lib.ListN.{getD, length-set}
 use lib.Seq.{getD-set-same, getD-set-other}
 use lib.Dec.{eqb}
-use borrow.Author.Tests.{eqb-true, eqb-false, not-true}
+use borrow.Author.Tests.{eqb-true, eqb-false, not-true, lt-ltb}
 use Rattle.parts.proofs.Laws.{by-test}
 use Rattle.peripheral.specs.declared.record.Peripheral.{Peripheral}
 use Rattle.peripheral.specs.Record.{blank}
 use Rattle.peripheral_set.specs.Marks.{slots, firstEmpty}
 use Rattle.peripheral_set.proofs.Laws.{search-found}
+use Rattle.addresses.proofs.Laws.{none-elsewhere}
 use Rattle.cycle.specs.declared.refusal.Lengths.{Lengths}
 use Rattle.cycle.specs.Refusal.{addressRefusal, lengthRefusal}
-use Rattle.cycle.proofs.Laws.{user-fits, config-fits, inputs-fit, outputs-fit, room-fits, add-slot, add-address, add-lengths}
+use Rattle.cycle.proofs.Laws.{user-fits, config-fits, inputs-fit, outputs-fit, room-fits, add-slot, add-address, add-shared, add-lengths}
 use Rattle.master.specs.declared.unit.DpMaster.{DpMaster}
 use Rattle.master.specs.declared.add.Addition.{Addition}
 use Rattle.master.specs.declared.add.Added.{Added}
 use Rattle.master.specs.Pools.{Pools, poolLengths}
-use Rattle.master.specs.Add.{newcomer, roomRefusal, usedAfter, unitAdded, lengthsOf, refusalOf, Adding}
+use Rattle.master.specs.Add.{newcomer, isShared, roomRefusal, usedAfter, unitAdded, lengthsOf, refusalOf, Adding}
 use Rattle.master.proofs.Checks.{setup-room, input-room, output-room, diag-room, add-passed, room-passed}
 use Rattle.valid.specs.Valid.{Sound, Placed, Apart, Before, Fits, Valid, occupied, balance}
 use Rattle.valid.proofs.Stations.{sound-new}
-use Rattle.valid.proofs.Balances.{standing-kept}
+use Rattle.valid.proofs.Balances.{marked-below, standing-kept}
 
 module _ (m : DpMaster) (a : Addition) (l : Lengths) (v : Valid m) where
   abbrev slot : ℕ
@@ -88,8 +89,14 @@ module _ (m : DpMaster) (a : Addition) (l : Lengths) (v : Valid m) where
             diagEnd = diag-room (m .parameters) fresh ar;
           }
 
-      added : addressRefusal (m .parameters) (a .address) ≡ 0 → Valid after
-      added aa =
+      -- no balance has the new one's address
+      no-other : isShared m a ≡ false → (j : ℕ) → occupied m j → (j ≡ slot → ⊥) → balance m j .station .address ≡ a .address → ⊥
+      no-other s j o d e =
+          let l = marked-below m v j o in
+          none-elsewhere (m .occupied) (m .peripherals) slot (a .address) s j l (rw (lt-ltb j slots l, o) refl) d e
+
+      added : addressRefusal (m .parameters) (a .address) ≡ 0 → isShared m a ≡ false → Valid after
+      added aa s =
           let n = new-placed in
           record {
             parameters = v .parameters;
@@ -97,6 +104,10 @@ module _ (m : DpMaster) (a : Addition) (l : Lengths) (v : Valid m) where
             table = simp length-set (v .table);
             sound = λ i o. each (λ (p : Peripheral). Sound (m .parameters .«max_retry_limit») (p .ranges .«diag_room») (p .station)) i o (λ e. sound-new (a .address) (m .parameters .«max_retry_limit») (l .room)) (λ d q. v .sound i q);
             address = λ i o. each (λ (p : Peripheral). addressRefusal (m .parameters) (p .station .address) ≡ 0) i o (λ e. aa) (λ d q. v .address i q);
+            differ = λ i j o r d.
+                each (λ (p : Peripheral). p .station .address ≡ balance after j .station .address → ⊥) i o
+                (λ e. each (λ (p : Peripheral). fresh .station .address ≡ p .station .address → ⊥) j r (λ f. absurd (d (e ∙ sym f))) (λ f q g. no-other s j q f (sym g)))
+                (λ e p. each (λ (q : Peripheral). balance m i .station .address ≡ q .station .address → ⊥) j r (λ f g. no-other s i p e g) (λ f q. v .differ i j p q d));
             placed = λ i o. each (Placed (m .parameters)) i o (λ e. n) (λ d q. v .placed i q);
             apart = λ i j o r d.
                 each (λ (p : Peripheral). Apart p (balance after j)) i o
@@ -122,6 +133,6 @@ add-valid m a user config pools out r c v =
     let u = m .parameters in
     let s = firstEmpty (m .occupied) in
     subst Valid (sym (c .after ∙ rw e refl))
-    (added m a l v (add-slot u (poolLengths pools) s (a .address) l q) (add-lengths u (poolLengths pools) s (a .address) l q) (λ f. rw f refl) (λ f. rw f refl) (room-passed m a l pools z)
-    (add-address u (poolLengths pools) s (a .address) l q)))
+    (added m a l v (add-slot u (poolLengths pools) s (a .address) (isShared m a) l q) (add-lengths u (poolLengths pools) s (a .address) (isShared m a) l q) (λ f. rw f refl) (λ f. rw f refl) (room-passed m a l pools z)
+    (add-address u (poolLengths pools) s (a .address) (isShared m a) l q) (add-shared u (poolLengths pools) s (a .address) (isShared m a) l q)))
     (λ e. subst Valid (sym (c .after ∙ rw e refl)) v)

@@ -1,5 +1,5 @@
 -- A unit whose balances went on, each in its own slot, is valid again.
--- The idea: visits, replies, wishes and resets change stations alone, and of occupied slots alone; so ranges and what is said of them stay.
+-- The idea: visits, replies, wishes and resets change stations alone, and of occupied slots alone; so ranges and what is said of them stay. Only a reset gives another address.
 use mathlib.Core.Path.{_≡_, refl, sym, _∙_}
 use mathlib.Core.Bool.{Bool, true, false, false≢true}
 use mathlib.Core.Logic.{inl, inr, ⊎-elim}
@@ -27,33 +27,30 @@ use Rattle.valid.proofs.Stations.{kind-among}
 
 -- ---- a balance that went on
 
--- u: the unit's parameters; there: the slot is occupied. Ranges and options are as they were, an admitted address and a sound station are so again,
--- and an empty slot is as it was
+-- u: the unit's parameters; there: the slot is occupied. Ranges and options are as they were, a sound station is so again, and an empty slot is as it was
 pub record Next (u : Parameters) (there : Bool) (p q : Peripheral) : Type 0 where
   pub ranges : q .ranges ≡ p .ranges
   pub options : q .options ≡ p .options
-  pub address : addressRefusal u (p .station .address) ≡ 0 → addressRefusal u (q .station .address) ≡ 0
   pub sound : Sound (u .«max_retry_limit») (p .ranges .«diag_room») (p .station) → Sound (u .«max_retry_limit») (q .ranges .«diag_room») (q .station)
   pub empty : there ≡ false → q ≡ p
 
 module _ (u : Parameters) (there : Bool) where
   pub next-same : (p : Peripheral) → Next u there p p
-  next-same p = record { ranges = refl; options = refl; address = λ a. a; sound = λ g. g; empty = λ e. refl }
+  next-same p = record { ranges = refl; options = refl; sound = λ g. g; empty = λ e. refl }
 
   pub next-next : (p q r : Peripheral) → Next u there p q → Next u there q r → Next u there p r
   next-next p q r a b =
       record {
         ranges = b .ranges ∙ a .ranges;
         options = b .options ∙ a .options;
-        address = λ e. b .address (a .address e);
         sound = λ g. b .sound (a .sound g);
         empty = λ e. b .empty e ∙ a .empty e;
       }
 
   -- another station in an occupied slot
-  pub next-station : (p : Peripheral) (s : Station) → there ≡ true → (addressRefusal u (p .station .address) ≡ 0 → addressRefusal u (s .address) ≡ 0)
+  pub next-station : (p : Peripheral) (s : Station) → there ≡ true
       → (Sound (u .«max_retry_limit») (p .ranges .«diag_room») (p .station) → Sound (u .«max_retry_limit») (p .ranges .«diag_room») s) → Next u there p (stationIs s p)
-  next-station p s o a g = record { ranges = refl; options = refl; address = a; sound = g; empty = λ e. absurd (false≢true (sym e ∙ o)) }
+  next-station p s o g = record { ranges = refl; options = refl; sound = g; empty = λ e. absurd (false≢true (sym e ∙ o)) }
 
 module _ (p q : Peripheral) (er : q .ranges ≡ p .ranges) (eo : q .options ≡ p .options) where
   pub placed-same : (u : Parameters) → Placed u p → Placed u q
@@ -94,20 +91,33 @@ marked-below m v i o = omega (arith, v .marks, marked-in (m .occupied) i o)
 abbrev pub GoneOn : Parameters → List Bool → List Peripheral → List Peripheral → Type 0
 GoneOn u marks ps qs = (i : ℕ) → Next u (getD marks i false) (getD ps i blank) (getD qs i blank)
 
--- one balance is put back
-pub on-set : (u : Parameters) (marks : List Bool) (ps : List Peripheral) (k : ℕ) (q : Peripheral) → Next u (getD marks k false) (getD ps k blank) q → GoneOn u marks ps (set ps k q)
-on-set u marks ps k q g i =
-    by-test (ltb k (length ps))
-    (λ l.
+-- one balance is put back: what holds of it in its slot, and of every other in its own, holds of all
+pub each-set : (P : ℕ → Peripheral → Type 0) (ps : List Peripheral) (k : ℕ) (q : Peripheral) → k < length ps → P k q → ((i : ℕ) → (i ≡ k → ⊥) → P i (getD ps i blank)) → (i : ℕ) → P i (getD (set ps k q) i blank)
+each-set P ps k q l new old i =
     by-test (eqb i k)
-    (λ e. let w : i ≡ k = eqb-true i k e in rw (w, getD-set-same ps k q blank (ltb-true k (length ps) l)) g)
-    (λ e. rw (getD-set-other ps k i q blank (eqb-false i k e)) (next-same u (getD marks i false) (getD ps i blank))))
-    (λ l. rw (set-out ps k q (ltb-false k (length ps) l)) (next-same u (getD marks i false) (getD ps i blank)))
+    (λ e. let w : i ≡ k = eqb-true i k e in rw (w, getD-set-same ps k q blank l) new)
+    (λ e. let d = eqb-false i k e in rw (getD-set-other ps k i q blank d) (old i d))
+
+pub on-set : (u : Parameters) (marks : List Bool) (ps : List Peripheral) (k : ℕ) (q : Peripheral) → k < length ps → Next u (getD marks k false) (getD ps k blank) q → GoneOn u marks ps (set ps k q)
+on-set u marks ps k q l g = each-set (λ i p. Next u (getD marks i false) (getD ps i blank) p) ps k q l g (λ i d. next-same u (getD marks i false) (getD ps i blank))
+
+-- ---- addresses
+
+-- each balance has the address that it had
+abbrev pub SameNames : List Peripheral → List Peripheral → Type 0
+SameNames ps qs = (i : ℕ) → getD qs i blank .station .address ≡ getD ps i blank .station .address
+
+pub same-set : (ps : List Peripheral) (k : ℕ) (q : Peripheral) → k < length ps → q .station .address ≡ getD ps k blank .station .address → SameNames ps (set ps k q)
+same-set ps k q l g = each-set (λ i p. p .station .address ≡ getD ps i blank .station .address) ps k q l g (λ i d. refl)
+
+-- ---- the unit
 
 module _ (m : DpMaster) (v : Valid m) where
-  pub valid-on : (qs : List Peripheral) (s : DpMasterState) → GoneOn (m .parameters) (m .occupied) (m .peripherals) qs → length qs ≡ slots → Standing (stateIs s (balancesAre qs m))
-      → Valid (stateIs s (balancesAre qs m))
-  valid-on qs s f n st =
+  valid-on : (qs : List Peripheral) (s : DpMasterState) → GoneOn (m .parameters) (m .occupied) (m .peripherals) qs
+      → ((i : ℕ) → occupied m i → addressRefusal (m .parameters) (getD qs i blank .station .address) ≡ 0)
+      → ((i j : ℕ) → occupied m i → occupied m j → (i ≡ j → ⊥) → getD qs i blank .station .address ≡ getD qs j blank .station .address → ⊥)
+      → length qs ≡ slots → Standing (stateIs s (balancesAre qs m)) → Valid (stateIs s (balancesAre qs m))
+  valid-on qs s f a b n st =
       record {
         parameters = v .parameters;
         marks = v .marks;
@@ -115,16 +125,43 @@ module _ (m : DpMaster) (v : Valid m) where
         within = v .within;
         used = λ i o. before-same (getD (m .peripherals) i blank) (getD qs i blank) (f i .ranges) (f i .options) (m .used) (v .used i o);
         sound = λ i o. f i .sound (v .sound i o);
-        address = λ i o. f i .address (v .address i o);
+        address = a;
+        differ = b;
         placed = λ i o. placed-same (getD (m .peripherals) i blank) (getD qs i blank) (f i .ranges) (f i .options) (m .parameters) (v .placed i o);
         apart = λ i j o r d. apart-same (getD (m .peripherals) i blank) (getD qs i blank) (f i .ranges) (f i .options) (getD (m .peripherals) j blank) (getD qs j blank) (f j .ranges) (f j .options) (v .apart i j o r d);
         empty = λ i e. f i .empty e ∙ v .empty i e;
         standing = st;
       }
 
-  pub valid-set : (k : ℕ) (q : Peripheral) (s : DpMasterState) → Next (m .parameters) (getD (m .occupied) k false) (getD (m .peripherals) k blank) q → Standing (stateIs s (balancesAre (set (m .peripherals) k q) m))
-      → Valid (stateIs s (balancesAre (set (m .peripherals) k q) m))
-  valid-set k q s g st = valid-on (set (m .peripherals) k q) s (on-set (m .parameters) (m .occupied) (m .peripherals) k q g) (simp length-set (v .table)) st
+  -- each with its address
+  pub valid-kept : (qs : List Peripheral) (s : DpMasterState) → GoneOn (m .parameters) (m .occupied) (m .peripherals) qs → SameNames (m .peripherals) qs → length qs ≡ slots
+      → Standing (stateIs s (balancesAre qs m)) → Valid (stateIs s (balancesAre qs m))
+  valid-kept qs s f h n st = valid-on qs s f (λ i o. rw (h i) (v .address i o)) (λ i j o r d e. v .differ i j o r d (sym (h i) ∙ e ∙ h j)) n st
+
+  -- one balance, in an occupied slot
+  module _ (k : ℕ) (q : Peripheral) (s : DpMasterState) (o : occupied m k) (g : Next (m .parameters) (getD (m .occupied) k false) (getD (m .peripherals) k blank) q)
+      (st : Standing (stateIs s (balancesAre (set (m .peripherals) k q) m))) where
+    in-table : k < length (m .peripherals)
+    in-table = omega (arith, v .table, marked-below m v k o)
+
+    went-on : GoneOn (m .parameters) (m .occupied) (m .peripherals) (set (m .peripherals) k q)
+    went-on = on-set (m .parameters) (m .occupied) (m .peripherals) k q in-table g
+
+    pub valid-set : q .station .address ≡ getD (m .peripherals) k blank .station .address → Valid (stateIs s (balancesAre (set (m .peripherals) k q) m))
+    valid-set h = valid-kept (set (m .peripherals) k q) s went-on (same-set (m .peripherals) k q in-table h) (simp length-set (v .table)) st
+
+    -- at an address that no other balance has
+    pub valid-moved : addressRefusal (m .parameters) (q .station .address) ≡ 0 → ((j : ℕ) → occupied m j → (j ≡ k → ⊥) → balance m j .station .address ≡ q .station .address → ⊥)
+        → Valid (stateIs s (balancesAre (set (m .peripherals) k q) m))
+    valid-moved a b =
+        valid-on (set (m .peripherals) k q) s went-on
+        (each-set (λ i p. occupied m i → addressRefusal (m .parameters) (p .station .address) ≡ 0) (m .peripherals) k q in-table (λ c. a) (λ i d c. v .address i c))
+        (λ i j c r.
+        each-set (λ i p. occupied m i → (i ≡ j → ⊥) → p .station .address ≡ getD (set (m .peripherals) k q) j blank .station .address → ⊥) (m .peripherals) k q in-table
+        (λ c d. each-set (λ j p. occupied m j → (k ≡ j → ⊥) → q .station .address ≡ p .station .address → ⊥) (m .peripherals) k q in-table (λ r d e. d refl) (λ j n r d e. b j r n (sym e)) j r d)
+        (λ i n c d. each-set (λ j p. occupied m j → (i ≡ j → ⊥) → balance m i .station .address ≡ p .station .address → ⊥) (m .peripherals) k q in-table (λ r d e. b i c n e) (λ j x r d e. v .differ i j c r d e) j r d)
+        i c)
+        (simp length-set (v .table)) st
 
 -- ---- the open request
 

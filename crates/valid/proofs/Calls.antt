@@ -18,6 +18,8 @@ use Rattle.peripheral.specs.declared.record.Peripheral.{Peripheral}
 use Rattle.peripheral.specs.Record.{blank, resetOf, stationIs}
 use Rattle.peripheral_set.specs.declared.PeripheralHandle.{PeripheralHandle}
 use Rattle.peripheral_set.specs.Marks.{slots, isOccupied, handleRefusal}
+use Rattle.addresses.specs.Addresses.{elsewhere}
+use Rattle.addresses.proofs.Laws.{none-elsewhere}
 use Rattle.cycle.specs.declared.state.OperatingState.{OperatingState}
 use Rattle.cycle.specs.declared.state.OperatingState.the-variants.{Stop, Clear, Operate}
 use Rattle.cycle.specs.Seen.{indexOf}
@@ -26,10 +28,10 @@ use Rattle.cycle.specs.Refusal.{addressRefusal}
 use Rattle.master.specs.declared.unit.DpMaster.{DpMaster}
 use Rattle.master.specs.Unit.{emptyUnit, createdOf, stateIs, balancesAre}
 use Rattle.master.specs.Handle.{resetRefusal, resetDone, wishDone}
-use Rattle.master.proofs.Checks.{reset-handle, reset-address}
+use Rattle.master.proofs.Checks.{reset-handle, reset-address, reset-shared}
 use Rattle.valid.specs.Valid.{InForce, Standing, Valid, occupied}
 use Rattle.valid.proofs.Stations.{sound-new, sound-due, fits-due}
-use Rattle.valid.proofs.Balances.{next-same, next-station, valid-on, valid-set, marked-below, standing-kept}
+use Rattle.valid.proofs.Balances.{next-same, next-station, valid-kept, valid-set, valid-moved, marked-below, standing-kept}
 
 -- ---- creation
 
@@ -48,6 +50,7 @@ valid-empty u h =
       within = record { setup = omega arith; inputs = omega arith; outputs = omega arith; diags = omega arith };
       sound = λ i o. absurd (false≢true (sym (same-of slots false i) ∙ o));
       address = λ i o. absurd (false≢true (sym (same-of slots false i) ∙ o));
+      differ = λ i j o. absurd (false≢true (sym (same-of slots false i) ∙ o));
       placed = λ i o. absurd (false≢true (sym (same-of slots false i) ∙ o));
       apart = λ i j o. absurd (false≢true (sym (same-of slots false i) ∙ o));
       used = λ i o. absurd (false≢true (sym (same-of slots false i) ∙ o));
@@ -79,7 +82,7 @@ mode-number Operate = omega arith
 pub enter-valid : (m : DpMaster) (o : OperatingState) → Valid m → Valid (stateIs (entered o (m .state)) m)
 enter-valid m o v =
     let g = v .standing in
-    valid-on m v (m .peripherals) (entered o (m .state)) (λ i. next-same (m .parameters) (getD (m .occupied) i false) (getD (m .peripherals) i blank)) (v .table)
+    valid-kept m v (m .peripherals) (entered o (m .state)) (λ i. next-same (m .parameters) (getD (m .occupied) i false) (getD (m .peripherals) i blank)) (λ i. refl) (v .table)
     (record {
       operating = mode-number o;
       place = g .place;
@@ -112,7 +115,7 @@ wish-changed m k v o =
     let p = getD ps k blank in
     let t = m .state .«open_slot» in
     let q : Peripheral = stationIs (dueIs true (p .station)) p in
-    valid-set m v k q (m .state) (next-station (m .parameters) (getD (m .occupied) k false) p (dueIs true (p .station)) o (λ a. a) (λ g. sound-due g true))
+    valid-set m v k q (m .state) o (next-station (m .parameters) (getD (m .occupied) k false) p (dueIs true (p .station)) o (λ g. sound-due g true))
     (standing-kept m (m .used) (m .occupied) (set ps k q) (v .standing)
     (λ r f. (
       r,
@@ -120,6 +123,7 @@ wish-changed m k v o =
           (λ e. let w : t ≡ k = eqb-true t k e in rw (w, getD-set-same ps k q blank (omega (arith, v .table, marked-below m v k o))) (fits-due (m .state .«open_kind») (p .station .«diag_needed») (stateOf (p .station .state)) (rw w at f)))
           (λ e. rw (getD-set-other ps k t q blank (eqb-false t k e)) f),
     )))
+    refl
 
 pub wish-valid : (m : DpMaster) (h : PeripheralHandle) → Valid m → Valid (wishDone m h .master)
 unfolding wishDone
@@ -138,20 +142,23 @@ reset-standing m k q false e g =
     let t = m .state .«open_slot» in
     standing-kept m (m .used) (m .occupied) (set (m .peripherals) k q) g (λ o f. (o, rw (getD-set-other (m .peripherals) k t q blank (eqb-false t k e)) f))
 
-reset-changed : (m : DpMaster) (k address : ℕ) → Valid m → occupied m k → addressRefusal (m .parameters) address ≡ 0
+reset-changed : (m : DpMaster) (k address : ℕ) → Valid m → occupied m k → addressRefusal (m .parameters) address ≡ 0 → elsewhere (m .occupied) (m .peripherals) k address ≡ false
     → Valid (stateIs (closedFor k (m .state)) (balancesAre (set (m .peripherals) k (resetOf (getD (m .peripherals) k blank) address)) m))
-reset-changed m k address v o a =
+reset-changed m k address v o a s =
     let p = getD (m .peripherals) k blank in
-    valid-set m v k (resetOf p address) (closedFor k (m .state))
-    (next-station (m .parameters) (getD (m .occupied) k false) p (newStation address) o (λ b. a) (λ g. sound-new address (m .parameters .«max_retry_limit») (p .ranges .«diag_room»)))
+    valid-moved m v k (resetOf p address) (closedFor k (m .state)) o
+    (next-station (m .parameters) (getD (m .occupied) k false) p (newStation address) o (λ g. sound-new address (m .parameters .«max_retry_limit») (p .ranges .«diag_room»)))
     (reset-standing m k (resetOf p address) (eqb (m .state .«open_slot») k) refl (v .standing))
+    a
+    (λ j c d e. let l = marked-below m v j c in none-elsewhere (m .occupied) (m .peripherals) k address s j l (rw (lt-ltb j slots l, c) refl) d e)
 
 pub reset-valid : (m : DpMaster) (h : PeripheralHandle) (address : ℕ) → Valid m → Valid (resetDone m h address .master)
 unfolding resetDone
 reset-valid m h address v =
-    by-test (eqb (resetRefusal (m .parameters) (m .occupied) h address) 0)
+    let all = m .peripherals in
+    by-test (eqb (resetRefusal (m .parameters) (m .occupied) all h address) 0)
     (λ e.
-    let n = eqb-true (resetRefusal (m .parameters) (m .occupied) h address) 0 e in
-    let z = reset-handle (m .parameters) (m .occupied) h address n in
-    rw (e, index-is m h z) (reset-changed m (h .slot) address v (handle-there m h z) (reset-address (m .parameters) (m .occupied) h address n)))
+    let n = eqb-true (resetRefusal (m .parameters) (m .occupied) all h address) 0 e in
+    let z = reset-handle (m .parameters) (m .occupied) all h address n in
+    rw (e, index-is m h z) (reset-changed m (h .slot) address v (handle-there m h z) (reset-address (m .parameters) (m .occupied) all h address n) (reset-shared (m .parameters) (m .occupied) all h address n)))
     (λ e. rw e v)

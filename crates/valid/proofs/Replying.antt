@@ -69,12 +69,13 @@ module _ (m : DpMaster) (t : Telegram) (payload inputs diags : List ℕ) (v : Va
       let is = sym (answer-heard (requestOf (p .station)) t p payload (length inputs) (length diags)) in
       let same : h .station .address ≡ p .station .address = subst (λ r. r .station .address ≡ p .station .address) is (heard-keeps _ (address-steady (p .station .address)) q (p .station) refl refl t took fits) in
       let stored = payloadPart p payload (length diags) .len in
-      valid-set m v k (stationIs (h .station) p) (answered next (m .state))
-      (next-station (m .parameters) (getD (m .occupied) k false) p (h .station) o (λ a. rw same a)
+      valid-set m v k (stationIs (h .station) p) (answered next (m .state)) o
+      (next-station (m .parameters) (getD (m .occupied) k false) p (h .station) o
       (λ g.
       subst (λ r. Sound limit room (r .station)) is
       (heard-keeps (Sound limit room) (sound-steady limit room) q (p .station) (sound-took g (diagnosisOf payload) stored (taken-held payload) (stored-fits p payload (length diags) (g .stored))) g t took fits)))
       (next-standing m next _ (v .standing))
+      same
 
   module _ (asked address : ℕ) (z : replyRefusal (m .parameters) (m .state) asked address t (length payload) (length inputs) (length diags) ≡ 0) where
     there : occupied m (m .state .«open_slot»)

@@ -1,5 +1,5 @@
 -- A turn keeps a unit valid.
--- The idea: each visit leaves its balance sound with the same ranges, and what is sent goes to an occupied slot and fits its balance.
+-- The idea: each visit leaves its balance sound with the same ranges and address, and what is sent goes to an occupied slot and fits its balance.
 use mathlib.Core.Path.{_≡_, refl, sym, ap, _∙_, subst}
 use mathlib.Core.Bool.{Bool, true, false, false≢true}
 use mathlib.Core.Logic.{inl, inr}
@@ -39,15 +39,16 @@ use Rattle.master.specs.Turn.{Swept, sweepFrom, stepAt, sweptBy, unitTurned, Tu
 use Rattle.master.proofs.Sweep.{sweep-skip, sweep-visit, sweep-stopped, sweep-none}
 use Rattle.valid.specs.Valid.{Fits, Standing, Valid}
 use Rattle.valid.proofs.Stations.{sound-visit, sendsFit, action-fits}
-use Rattle.valid.proofs.Balances.{Next, next-same, next-next, next-station, GoneOn, on-set, valid-on, marked-in, marked-below}
+use Rattle.valid.proofs.Balances.{Next, next-same, next-next, next-station, GoneOn, on-set, SameNames, same-set, valid-kept, marked-in, marked-below}
 
 -- ---- the visits
 
 visited-next : (u : Parameters) (there : Bool) (p : Peripheral) → there ≡ true → Next u there p (visitedBy (u .«max_retry_limit») p)
 visited-next u there p o =
-    let w = visitAction (u .«max_retry_limit») p in
-    let same : visitedOf w (p .station) .address ≡ p .station .address = ap (λ (s : Station). s .address) (visit-keeps w (p .station)) in
-    next-station u there p (visitedOf w (p .station)) o (λ a. rw same a) (λ g. sound-visit g (p .options .«has_user_parameters») (p .options .«has_config»))
+    next-station u there p (visitedOf (visitAction (u .«max_retry_limit») p) (p .station)) o (λ g. sound-visit g (p .options .«has_user_parameters») (p .options .«has_config»))
+
+visited-same : (limit : ℕ) (p : Peripheral) → visitedBy limit p .station .address ≡ p .station .address
+visited-same limit p = ap (λ (s : Station). s .address) (visit-keeps (visitAction limit p) (p .station))
 
 -- what was sent went to an occupied slot, and fits its balance
 abbrev SentTo : List Bool → List Peripheral → Sent → Type 0
@@ -69,12 +70,13 @@ module _ (marks : List Bool) where
 -- what all visits leave
 record Went (u : Parameters) (marks : List Bool) (ps : List Peripheral) (w : Swept) : Type 0 where
   on : GoneOn u marks ps (w .balances)
+  names : SameNames ps (w .balances)
   size : length (w .balances) ≡ length ps
   to : SentTo marks (w .balances) (w .seen .sent)
 
 module _ (u : Parameters) (marks : List Bool) where
   stay : (seen : Seen) (ps : List Peripheral) → SentTo marks ps (seen .sent) → Went u marks ps (record { seen = seen; balances = ps })
-  stay seen ps h = record { on = λ j. next-same u (getD marks j false) (getD ps j blank); size = refl; to = h }
+  stay seen ps h = record { on = λ j. next-same u (getD marks j false) (getD ps j blank); names = λ j. refl; size = refl; to = h }
 
   sweep-went : (n i : ℕ) (seen : Seen) (ps : List Peripheral) → length ps ≡ length marks → SentTo marks ps (seen .sent) → Went u marks ps (sweepFrom n (u .«max_retry_limit») marks i seen ps)
   sweep-went zero i seen ps l h = rw (sweep-none (u .«max_retry_limit») marks i seen ps) (stay seen ps h)
@@ -87,11 +89,13 @@ module _ (u : Parameters) (marks : List Bool) where
       (λ f.
       by-test (getD marks i false)
       (λ e.
+      let b : i < length ps = omega (arith, l, marked-in marks i e) in
       let r = sweep-went n (i + 1) (seenBy i w seen) (set ps i q) (simp length-set l)
-      (visit-sent marks w i seen ps e (omega (arith, l, marked-in marks i e)) f (action-fits (p .options .«has_user_parameters») (p .options .«has_config») (p .station) limit)) in
+      (visit-sent marks w i seen ps e b f (action-fits (p .options .«has_user_parameters») (p .options .«has_config») (p .station) limit)) in
       rw (sweep-visit limit marks n i seen ps e f)
       (record {
-        on = λ j. next-next u (getD marks j false) _ _ _ (on-set u marks ps i q (visited-next u (getD marks i false) p e) j) (r .on j);
+        on = λ j. next-next u (getD marks j false) _ _ _ (on-set u marks ps i q b (visited-next u (getD marks i false) p e) j) (r .on j);
+        names = λ j. r .names j ∙ same-set ps i q b (visited-same limit p) j;
         size = r .size ∙ length-set ps i q;
         to = r .to;
       }))
@@ -119,7 +123,7 @@ module _ (m : DpMaster) (v : Valid m) (time : ℕ) (l : m .state .«last_turn» 
   taken-turn step =
       let from = startOf step (m .state) in
       let w = sweep-went (m .parameters) (m .occupied) (slots - from) from nothingSeen (m .peripherals) (v .table ∙ sym (v .marks)) refl in
-      valid-on m v (sweptBy step m .balances) (afterTurn step (sweptBy step m .seen .sent) time (m .state)) (w .on) (w .size ∙ v .table)
+      valid-kept m v (sweptBy step m .balances) (afterTurn step (sweptBy step m .seen .sent) time (m .state)) (w .on) (w .names) (w .size ∙ v .table)
       (standing-after step (sweptBy step m .seen .sent) (sweptBy step m .balances) (w .to))
 
 pub turn-valid : (m : DpMaster) (time : ℕ) (high : Bool) (setup outputs buf out : List ℕ) (r : Turn) → Turned m time high setup outputs buf out r → Valid m → Valid (r .master)

@@ -1,5 +1,5 @@
 -- `Valid`: what holds of every unit that was created, whatever calls came after.
--- From 01, "The unit and its sizes" (ranges, limits, the watchdog), "One turn" (place, global control), "One visit and one reply" (what a state asks for)
+-- From 01, "The unit and its sizes" (ranges, limits, addresses, the watchdog), "One turn" (place, global control), "One visit and one reply" (what a state asks for)
 -- and "Refusal numbers" (open requests).
 use mathlib.Core.Path.{_≡_}
 use Prim.Native.Nat.{ℕ, _+_, _≤_, _<_}
@@ -128,6 +128,7 @@ pub record Valid (m : DpMaster) : Type 0 where
   pub table : length (m .peripherals) ≡ slots
   pub sound : (i : ℕ) → occupied m i → Sound (m .parameters .«max_retry_limit») (balance m i .ranges .«diag_room») (balance m i .station)
   pub address : (i : ℕ) → occupied m i → addressRefusal (m .parameters) (balance m i .station .address) ≡ 0
+  pub differ : (i j : ℕ) → occupied m i → occupied m j → (i ≡ j → ⊥) → balance m i .station .address ≡ balance m j .station .address → ⊥
   pub placed : (i : ℕ) → occupied m i → Placed (m .parameters) (balance m i)
   pub apart : (i j : ℕ) → occupied m i → occupied m j → (i ≡ j → ⊥) → Apart (balance m i) (balance m j)
   pub within : Within (m .parameters) (m .used)

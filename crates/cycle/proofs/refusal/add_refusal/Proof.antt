@@ -24,6 +24,9 @@ full-requires c κs = search needs
 address-requires : tie.Need-address-requires
 address-requires c κs = search needs
 
+shared-requires : tie.Need-shared-requires
+shared-requires c κs = search needs
+
 length-requires : tie.Need-length-requires
 length-requires c κs = search needs
 
@@ -45,7 +48,8 @@ returns c =
     let at-length3 = c .before .before in
     let at-length2 = at-length3 .before in
     let at-length = at-length2 .before in
-    let at-address = at-length .before in
+    let at-shared = at-length .before in
+    let at-address = at-shared .before in
     let at-full = at-address .before in
     let at-lent4 = at-full .before in
     let at-lent3 = at-lent4 .before in
@@ -53,8 +57,8 @@ returns c =
     let at-lent = at-lent2 .before in
     let at-start = at-lent .before in
     let a = at-start .args in
-    (rw (c .before .length4 .ensures, at-length3 .length3 .ensures, at-length2 .length2 .ensures, at-length .length .ensures, at-address .address .ensures, at-full .full .ensures, at-lent4 .lent4 .ensures, at-lent3 .lent3 .ensures, at-lent2 .lent2 .ensures, at-lent .lent .ensures) at (c .length5 .ensures))
-    ∙ in-turn (addRows (a .u) (a .lent) (a .slot) (a .address) (a .l)) refl
+    (rw (c .before .length4 .ensures, at-length3 .length3 .ensures, at-length2 .length2 .ensures, at-length .length .ensures, at-shared .shared .ensures, at-address .address .ensures, at-full .full .ensures, at-lent4 .lent4 .ensures, at-lent3 .lent3 .ensures, at-lent2 .lent2 .ensures, at-lent .lent .ensures) at (c .length5 .ensures))
+    ∙ in-turn (addRows (a .u) (a .lent) (a .slot) (a .address) (a .elsewhere) (a .l)) refl
 
 pub add-refusal-spec : {M : Type 1} → statement M
 add-refusal-spec =
@@ -66,6 +70,7 @@ add-refusal-spec =
     lent-requires-4
     full-requires
     address-requires
+    shared-requires
     length-requires
     length-requires-2
     length-requires-3

@@ -17,6 +17,9 @@ present-requires-2 c κs = search needs
 first-empty-requires : tie.Need-first-empty-requires
 first-empty-requires c κs = search needs
 
+taken-elsewhere-requires : tie.Need-taken-elsewhere-requires
+taken-elsewhere-requires c κs = search needs
+
 add-refusal-requires : tie.Need-add-refusal-requires
 add-refusal-requires c κs = search needs
 
@@ -26,19 +29,20 @@ none-requires c κs = search needs
 returns : tie.Need-returns
 returns c =
     let at-refusal = c .before .before in
-    let at-first-empty = at-refusal .before in
+    let at-elsewhere = at-refusal .before in
+    let at-first-empty = at-elsewhere .before in
     let at-present2 = at-first-empty .before in
     let at-present = at-present2 .before in
-    let at-start = at-present .before .before .before .before .before .before .before .before .before .before in
+    let at-start = at-present .before .before .before .before .before .before .before .before .before .before .before in
     let a = at-start .args in
-    let e = rw (at-present .present .ensures, at-present2 .present2 .ensures, at-first-empty .first-empty .ensures) at (at-refusal .add-refusal .ensures) in
+    let e = rw (at-present .present .ensures, at-present2 .present2 .ensures, at-elsewhere .taken-elsewhere .ensures, at-first-empty .first-empty .ensures) at (at-refusal .add-refusal .ensures) in
     add-refused (a .self) (a .a) _ _ _ _ _ e _ (c .before .if1 .taken) (rw (c .none .ensures) refl)
 
 options-held-requires : tie.Need-options-held-requires
-options-held-requires c κs = add-lengths _ _ _ _ _ (sym (c .before .add-refusal .ensures) ∙ c .if1 .left)
+options-held-requires c κs = add-lengths _ _ _ _ _ _ (sym (c .before .add-refusal .ensures) ∙ c .if1 .left)
 
 ranges-at-requires : tie.Need-ranges-at-requires
-ranges-at-requires c κs = add-lengths _ _ _ _ _ (sym (c .before .before .add-refusal .ensures) ∙ c .before .if1 .left)
+ranges-at-requires c κs = add-lengths _ _ _ _ _ _ (sym (c .before .before .add-refusal .ensures) ∙ c .before .if1 .left)
 
 new-requires : tie.Need-new-requires
 new-requires c κs = search needs
@@ -57,12 +61,13 @@ returns-2 c =
     let at-options-held = at-ranges-at .before in
     let at-if1 = at-options-held .before in
     let at-refusal = at-if1 .before in
-    let at-first-empty = at-refusal .before in
+    let at-elsewhere = at-refusal .before in
+    let at-first-empty = at-elsewhere .before in
     let at-present2 = at-first-empty .before in
     let at-present = at-present2 .before in
-    let at-start = at-present .before .before .before .before .before .before .before .before .before .before in
+    let at-start = at-present .before .before .before .before .before .before .before .before .before .before .before in
     let a = at-start .args in
-    let e = rw (at-present .present .ensures, at-present2 .present2 .ensures, at-first-empty .first-empty .ensures) at (at-refusal .add-refusal .ensures) in
+    let e = rw (at-present .present .ensures, at-present2 .present2 .ensures, at-elsewhere .taken-elsewhere .ensures, at-first-empty .first-empty .ensures) at (at-refusal .add-refusal .ensures) in
     let k = rw (at-new .new .ensures, at-ranges-at .ranges-at .ensures, at-options-held .options-held .ensures, at-present .present .ensures, at-present2 .present2 .ensures) at (at-room .room-refusal .ensures) in
     room-refused (a .self) (a .a) _ _ _ _ _ e _ (at-if1 .if1 .left) k _ (c .before .if2 .taken) (rw (c .none2 .ensures) refl)
 
@@ -70,19 +75,19 @@ mul-p : tie.Need-mul-p
 mul-p c =
     let at-if1 = c .before .before .before .before .before in
     let at-add-refusal = at-if1 .before in
-    let h = add-slot _ _ _ _ _ (sym (at-add-refusal .add-refusal .ensures) ∙ at-if1 .if1 .left) in search needs
+    let h = add-slot _ _ _ _ _ _ (sym (at-add-refusal .add-refusal .ensures) ∙ at-if1 .if1 .left) in search needs
 
 element-set-from-p : tie.Need-element-set-from-p
 element-set-from-p c =
     let at-if1 = c .before .before .before .before .before in
     let at-add-refusal = at-if1 .before in
-    let h = add-slot _ _ _ _ _ (sym (at-add-refusal .add-refusal .ensures) ∙ at-if1 .if1 .left) in search needs
+    let h = add-slot _ _ _ _ _ _ (sym (at-add-refusal .add-refusal .ensures) ∙ at-if1 .if1 .left) in search needs
 
 element-write-m : tie.Need-element-write-m
 element-write-m c =
     let at-if1 = c .before .before .before .before .before in
     let at-add-refusal = at-if1 .before in
-    let h = add-slot _ _ _ _ _ (sym (at-add-refusal .add-refusal .ensures) ∙ at-if1 .if1 .left) in search needs
+    let h = add-slot _ _ _ _ _ _ (sym (at-add-refusal .add-refusal .ensures) ∙ at-if1 .if1 .left) in search needs
 
 used-after-requires : tie.Need-used-after-requires
 used-after-requires c κs = sym (c .before .room-refusal .ensures) ∙ c .if2 .left
@@ -99,11 +104,11 @@ clear-requires-2 c κs = search needs
 clear-requires-3 : tie.Need-clear-requires-3
 clear-requires-3 c κs = search needs
 
-cast-t46 : tie.Need-cast-t46
-cast-t46 c =
+cast-t48 : tie.Need-cast-t48
+cast-t48 c =
     let at-if1 = c .before .before .before .before .before .before .before .before .before .before .before .before .before .before .before .before .before .before .before .before .before .before .before in
     let at-refusal = at-if1 .before in
-    let h = add-slot _ _ _ _ _ (sym (at-refusal .add-refusal .ensures) ∙ at-if1 .if1 .left) in
+    let h = add-slot _ _ _ _ _ _ (sym (at-refusal .add-refusal .ensures) ∙ at-if1 .if1 .left) in
     omega arith
 
 same-length : tie.Need-same-length
@@ -132,12 +137,13 @@ returns-3 c =
     let at-options-held = at-ranges-at .before in
     let at-if1 = at-options-held .before in
     let at-refusal = at-if1 .before in
-    let at-first-empty = at-refusal .before in
+    let at-elsewhere = at-refusal .before in
+    let at-first-empty = at-elsewhere .before in
     let at-present2 = at-first-empty .before in
     let at-present = at-present2 .before in
-    let at-start = at-present .before .before .before .before .before .before .before .before .before .before in
+    let at-start = at-present .before .before .before .before .before .before .before .before .before .before .before in
     let a = at-start .args in
-    let e = rw (at-present .present .ensures, at-present2 .present2 .ensures, at-first-empty .first-empty .ensures) at (at-refusal .add-refusal .ensures) in
+    let e = rw (at-present .present .ensures, at-present2 .present2 .ensures, at-elsewhere .taken-elsewhere .ensures, at-first-empty .first-empty .ensures) at (at-refusal .add-refusal .ensures) in
     let k = rw (at-new .new .ensures, at-ranges-at .ranges-at .ensures, at-options-held .options-held .ensures, at-present .present .ensures, at-present2 .present2 .ensures) at (at-room .room-refusal .ensures) in
     add-accepted (a .self) (a .a) _ _ _ _ _ e _ (at-if1 .if1 .left) k _ _ _ _ _ (at-if2 .if2 .left)
     (rw (at-used .used-after .ensures, at-new .new .ensures, at-ranges-at .ranges-at .ensures, at-options-held .options-held .ensures, at-present .present .ensures, at-present2 .present2 .ensures, at-first-empty .first-empty .ensures) refl)
@@ -153,6 +159,7 @@ add-spec =
     present-requires
     present-requires-2
     first-empty-requires
+    taken-elsewhere-requires
     add-refusal-requires
     none-requires
     returns
@@ -170,7 +177,7 @@ add-spec =
     clear-requires
     clear-requires-2
     clear-requires-3
-    cast-t46
+    cast-t48
     same-length
     same-length-2
     same-length-3

@@ -12,7 +12,7 @@ reset-refusal-requires c κs = search needs
 returns : tie.Need-returns
 unfolding resetDone
 returns c =
-    not-done _ (c .before .reset-refusal .result) _ (c .before .before .before .before .before .args .self) (c .before .reset-refusal .ensures) (c .if1 .taken)
+    not-done _ (c .before .reset-refusal .result) _ (c .before .before .before .before .before .before .args .self) (c .before .reset-refusal .ensures) (c .if1 .taken)
 
 index-requires : tie.Need-index-requires
 index-requires c κs = search needs
@@ -41,7 +41,7 @@ returns-2 c =
     let at-index = c .before .before .before in
     let at-if1 = at-index .before in
     let at-reset-refusal = at-if1 .before in
-    let at-start = at-reset-refusal .before .before .before .before in
+    let at-start = at-reset-refusal .before .before .before .before .before in
     is-done _ (at-reset-refusal .reset-refusal .result) _ (at-start .args .self) (at-reset-refusal .reset-refusal .ensures) _ (at-if1 .if1 .left) (rw (c .closed-for .ensures, c .before .reset-address .ensures, at-index .index .ensures .0) refl)
 
 pub reset-address-spec : {M : Type 1} → statement M
