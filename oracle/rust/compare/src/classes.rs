@@ -277,9 +277,7 @@ impl Group {
                     all.into_iter().filter(|l| !l.contains("absent")).collect()
                 }
             }
-            Group::Kinds => {
-                plain(&["plain", "marked: the same address twice", "marked: configuration of other lengths"])
-            }
+            Group::Kinds => plain(&["plain", "marked: configuration of other lengths"]),
             Group::EachLimit => (0..255).map(|n| n.to_string()).collect(),
         }
     }

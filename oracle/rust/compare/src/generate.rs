@@ -1,5 +1,5 @@
-//! Random scripts in the domain of the comparison. A script has a kind (plain, or one of the two marked kinds), a
-//! theme that says what it is after, and then draws call after call, steered by what the unit looks like.
+//! Random scripts in the domain of the comparison. A script has a kind (plain or marked), a theme that says what it is
+//! after, and then draws call after call, steered by what the unit looks like.
 use crate::classes::STATUSES;
 use crate::config;
 use crate::rng::Rng;
@@ -15,21 +15,18 @@ pub enum Size {
     Wide,
 }
 
-/// The two kinds of scripts that stand apart: some calls in them may be answered otherwise one day.
+/// The kind of scripts that stands apart: some calls in them may be answered otherwise one day.
 #[derive(Clone, Copy, PartialEq, Eq)]
 pub enum Marked {
     None,
     /// As often as they come.
     Some,
-    /// Two slots may have the same address.
-    SameAddress,
     /// Configuration bytes that do not add up to the lengths of the images.
     OtherConfig,
 }
 
 const PLAIN: usize = 0;
-const SAME_ADDRESS: usize = 1;
-const OTHER_CONFIG: usize = 2;
+const OTHER_CONFIG: usize = 1;
 
 #[derive(Clone, Copy, PartialEq, Eq)]
 enum Theme {
@@ -49,7 +46,6 @@ enum Theme {
 struct Run<'s> {
     s: &'s mut Script,
     rng: Rng,
-    kind: usize,
     theme: Theme,
     small: bool,
     wide: bool,
@@ -68,8 +64,7 @@ pub fn script(s: &mut Script, seed: u64, k: u64, size: Size, marked: Marked) {
     let mut rng = Rng::new(seed, k);
     let small = size == Size::Small;
     let kind = match (marked, rng.below(100)) {
-        (Marked::Some, 0..=2) | (Marked::SameAddress, _) => SAME_ADDRESS,
-        (Marked::Some, 3..=5) | (Marked::OtherConfig, _) => OTHER_CONFIG,
+        (Marked::Some, 0..=2) | (Marked::OtherConfig, _) => OTHER_CONFIG,
         _ => PLAIN,
     };
     let theme = match rng.below(100) {
@@ -149,19 +144,8 @@ pub fn script(s: &mut Script, seed: u64, k: u64, size: Size, marked: Marked) {
     };
     let answers = rng.pick(&[600, 800, 900, 950]);
     let leads_on = rng.pick(&[300, 500, 700, 850, 950]);
-    let mut one = Run {
-        s,
-        rng,
-        kind,
-        theme,
-        small,
-        wide: size == Size::Wide,
-        own,
-        waiting,
-        answers,
-        leads_on,
-        mute: [false; 32],
-    };
+    let mut one =
+        Run { s, rng, theme, small, wide: size == Size::Wide, own, waiting, answers, leads_on, mute: [false; 32] };
     for _ in 0..early {
         one.add();
     }
@@ -212,17 +196,15 @@ fn length(rng: &mut Rng, extremes: usize, most: usize, small: bool) -> usize {
     }
 }
 
-fn address(rng: &mut Rng, own: u8, others: &[Balance], same: bool) -> u8 {
-    if same && !others.is_empty() && rng.chance(500) {
-        return rng.pick(&others.iter().map(|b| b.addr).collect::<Vec<u8>>());
-    }
+/// Any address that neither the master nor another balance has.
+fn address(rng: &mut Rng, own: u8, others: &[Balance]) -> u8 {
     loop {
         let a = match rng.below(12) {
             0 => 0,
             1 => 125,
             _ => rng.below(126) as u8,
         };
-        if a != own && (same || others.iter().all(|b| b.addr != a)) {
+        if a != own && others.iter().all(|b| b.addr != a) {
             return a;
         }
     }
@@ -256,7 +238,7 @@ fn balance(rng: &mut Rng, kind: usize, own: u8, others: &[Balance], extremes: us
     let user = user.map(|n| rng.bytes(n));
     let bits = rng.byte();
     Balance {
-        addr: address(rng, own, others, kind == SAME_ADDRESS),
+        addr: address(rng, own, others),
         ident: rng.next() as u16,
         sync: bits & 1 != 0,
         freeze: bits & 2 != 0,
@@ -285,7 +267,7 @@ impl Run<'_> {
         if let Some(mut b) = self.waiting.pop() {
             // a reset may have taken its address meanwhile
             let taken = (0..self.s.count()).any(|k| self.s.balance(k).addr == b.addr);
-            if taken && self.kind != SAME_ADDRESS {
+            if taken {
                 b.addr = self.free_address();
             }
             self.s.add(b);
@@ -295,7 +277,7 @@ impl Run<'_> {
     fn free_address(&mut self) -> u8 {
         let mut others: Vec<Balance> = (0..self.s.count()).map(|k| self.s.balance(k).clone()).collect();
         others.extend(self.waiting.iter().cloned());
-        address(&mut self.rng, self.own, &others, self.kind == SAME_ADDRESS)
+        address(&mut self.rng, self.own, &others)
     }
 
     fn run(&mut self, length: usize) {

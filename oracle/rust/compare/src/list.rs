@@ -1,12 +1,12 @@
 //! The stored list: short scripts with small images, chosen so that every class occurs. First those that bring many new
-//! classes for their size, then those that bring fewer, then any that bring one; the two marked kinds stand last.
+//! classes for their size, then those that bring fewer, then any that bring one; the marked kind stands last.
 use crate::classes::Group;
 use crate::generate::{self, Marked, Size};
 use crate::script::Script;
 
 const SEED: u64 = 6;
 const CANDIDATES: u64 = 25_000;
-/// Scripts of each marked kind at the end of the list.
+/// Scripts of the marked kind at the end of the list.
 const MARKED: u64 = 6;
 
 /// How often a class should occur; once where it takes a long script, and each limit by itself is not asked for.
@@ -25,10 +25,8 @@ pub fn make() -> Script {
             consider(&mut list, k, gain);
         }
     }
-    for kind in [Marked::SameAddress, Marked::OtherConfig] {
-        for k in 0..MARKED {
-            generate::script(&mut list, SEED, k, Size::Small, kind);
-        }
+    for k in 0..MARKED {
+        generate::script(&mut list, SEED, k, Size::Small, Marked::OtherConfig);
     }
     list
 }

@@ -261,6 +261,11 @@ impl Unit {
         }
     }
 
+    /// A balance in another slot than `slot` has this address.
+    fn elsewhere(&self, slot: usize, addr: u8) -> bool {
+        self.dp.iter().any(|(h, p)| usize::from(h.peek_index()) != slot && p.address() == addr)
+    }
+
     fn add(&mut self, a: &Addition, out: &mut Vec<u8>) -> bool {
         let length = |s: &Option<Vec<u8>>| s.as_ref().map_or(0, Vec::len);
         let (user, config) = (length(&a.user), length(&a.config));
@@ -269,6 +274,7 @@ impl Unit {
         let outside = self.added.len() == SLOTS
             || a.addr > 125
             || a.addr == self.fdl.parameters().address
+            || self.elsewhere(self.added.len(), a.addr)
             || user > 237
             || config > 244
             || inputs > 244
@@ -407,7 +413,8 @@ impl Unit {
     }
 
     fn reset(&mut self, slot: u8, new: u8, out: &mut Vec<u8>) -> bool {
-        if (new > 125 || new == self.fdl.parameters().address) && !self.beyond {
+        let outside = new > 125 || new == self.fdl.parameters().address || self.elsewhere(usize::from(slot), new);
+        if outside && !self.beyond {
             return false;
         }
         let done = self.with(slot, |p| {
