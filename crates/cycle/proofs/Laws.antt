@@ -1,7 +1,8 @@
 -- The laws of refusals and of the state that the proofs here and in the crates above cite.
 -- The idea: a refusal that is 0 has passed every row, and a row that does not apply is the fact that it tests.
 use mathlib.Core.Path.{_≡_, refl, sym}
-use mathlib.Core.Bool.{Bool, true, false, not, _||_, false≢true, cond}
+use mathlib.Core.Bool.{Bool, true, false, not, false≢true, cond}
+use mathlib.Mathlib.Data.Bool.Basic.{or-eq-false-eq-eq-false-and-eq-false as neither}
 use Prim.Native.Nat.{ℕ, _≤_, _<_}
 use lib.Dec.{ltb, eqb}
 use borrow.Author.Tests.{ltb-true, ltb-false, leb-false, eqb-true, not-true, not-false, eq-eqb, ne-eqb}
@@ -68,10 +69,6 @@ pub turn-not-early : (u : Parameters) (s : DpMasterState) (time setup outputs pa
 unfolding turnRefusal
 turn-not-early u s time setup outputs payload z = ltb-false time (s .«last_turn») (passed (turnRows u s time setup outputs payload) refl z 3)
 
-neither : (a b : Bool) → (a || b) ≡ false → (a ≡ false) × (b ≡ false)
-neither true b e = absurd (false≢true (sym e))
-neither false b e = (refl, e)
-
 module _ (u : Parameters) (s : DpMasterState) (asked address : ℕ) (t : Telegram) (payload inputs diags : ℕ) (z : replyRefusal u s asked address t payload inputs diags ≡ 0) where
   pub reply-inputs : inputs ≡ u .«input_pool»
   unfolding replyRefusal
@@ -83,7 +80,7 @@ module _ (u : Parameters) (s : DpMasterState) (asked address : ℕ) (t : Telegra
 
   is-open : isOpen s ≡ true
   unfolding replyRefusal
-  is-open = not-false _ (neither (not (isOpen s)) (not (eqb address asked)) (passed (replyRows u s asked address t payload inputs diags) refl z 2) .0)
+  is-open = not-false _ (neither (not (isOpen s)) (not (eqb address asked)) .0 (passed (replyRows u s asked address t payload inputs diags) refl z 2) .0)
 
   pub reply-open : eqb (s .«open_kind») 0 ≡ false
   reply-open = not-true _ (and-left (not (eqb (s .«open_kind») 0)) (ltb (s .«open_slot») slots) is-open)

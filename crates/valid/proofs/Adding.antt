@@ -9,13 +9,12 @@ use native.Mathlib.Omega.{arith}
 use lib.ListN.{getD, length-set}
 use lib.Seq.{getD-set-same, getD-set-other}
 use lib.Dec.{eqb}
-use borrow.Author.Tests.{eqb-true, eqb-false, not-true, lt-ltb}
+use borrow.Author.Tests.{eqb-true, eqb-false, not-true}
 use Rattle.parts.proofs.Laws.{by-test}
 use Rattle.peripheral.specs.declared.record.Peripheral.{Peripheral}
 use Rattle.peripheral.specs.Record.{blank}
 use Rattle.peripheral_set.specs.Marks.{slots, firstEmpty}
 use Rattle.peripheral_set.proofs.Laws.{search-found}
-use Rattle.addresses.proofs.Laws.{none-elsewhere}
 use Rattle.cycle.specs.declared.refusal.Lengths.{Lengths}
 use Rattle.cycle.specs.Refusal.{addressRefusal, lengthRefusal}
 use Rattle.cycle.proofs.Laws.{user-fits, config-fits, inputs-fit, outputs-fit, room-fits, add-slot, add-address, add-shared, add-lengths}
@@ -27,7 +26,7 @@ use Rattle.master.specs.Add.{newcomer, isShared, roomRefusal, usedAfter, unitAd
 use Rattle.master.proofs.Checks.{setup-room, input-room, output-room, diag-room, add-passed, room-passed}
 use Rattle.valid.specs.Valid.{Sound, Placed, Apart, Before, Fits, Valid, occupied, balance}
 use Rattle.valid.proofs.Stations.{sound-new}
-use Rattle.valid.proofs.Balances.{marked-below, standing-kept}
+use Rattle.valid.proofs.Balances.{nobody-else, standing-kept}
 
 module _ (m : DpMaster) (a : Addition) (l : Lengths) (v : Valid m) where
   abbrev slot : ℕ
@@ -89,12 +88,6 @@ module _ (m : DpMaster) (a : Addition) (l : Lengths) (v : Valid m) where
             diagEnd = diag-room (m .parameters) fresh ar;
           }
 
-      -- no balance has the new one's address
-      no-other : isShared m a ≡ false → (j : ℕ) → occupied m j → (j ≡ slot → ⊥) → balance m j .station .address ≡ a .address → ⊥
-      no-other s j o d e =
-          let l = marked-below m v j o in
-          none-elsewhere (m .occupied) (m .peripherals) slot (a .address) s j l (rw (lt-ltb j slots l, o) refl) d e
-
       added : addressRefusal (m .parameters) (a .address) ≡ 0 → isShared m a ≡ false → Valid after
       added aa s =
           let n = new-placed in
@@ -106,8 +99,8 @@ module _ (m : DpMaster) (a : Addition) (l : Lengths) (v : Valid m) where
             address = λ i o. each (λ (p : Peripheral). addressRefusal (m .parameters) (p .station .address) ≡ 0) i o (λ e. aa) (λ d q. v .address i q);
             differ = λ i j o r d.
                 each (λ (p : Peripheral). p .station .address ≡ balance after j .station .address → ⊥) i o
-                (λ e. each (λ (p : Peripheral). fresh .station .address ≡ p .station .address → ⊥) j r (λ f. absurd (d (e ∙ sym f))) (λ f q g. no-other s j q f (sym g)))
-                (λ e p. each (λ (q : Peripheral). balance m i .station .address ≡ q .station .address → ⊥) j r (λ f g. no-other s i p e g) (λ f q. v .differ i j p q d));
+                (λ e. each (λ (p : Peripheral). fresh .station .address ≡ p .station .address → ⊥) j r (λ f. absurd (d (e ∙ sym f))) (λ f q g. nobody-else m v slot (a .address) s j q f (sym g)))
+                (λ e p. each (λ (q : Peripheral). balance m i .station .address ≡ q .station .address → ⊥) j r (λ f g. nobody-else m v slot (a .address) s i p e g) (λ f q. v .differ i j p q d));
             placed = λ i o. each (Placed (m .parameters)) i o (λ e. n) (λ d q. v .placed i q);
             apart = λ i j o r d.
                 each (λ (p : Peripheral). Apart p (balance after j)) i o

@@ -9,7 +9,7 @@ use native.Mathlib.Omega.{arith}
 use lib.ListN.{length, getD, set, length-set, List·getD-eq-default}
 use lib.Seq.{getD-set-same, getD-set-other, set-out}
 use lib.Dec.{eqb, ltb}
-use borrow.Author.Tests.{eqb-true, eqb-false, eq-eqb, ltb-true, ltb-false}
+use borrow.Author.Tests.{eqb-true, eqb-false, eq-eqb, ltb-true, ltb-false, lt-ltb}
 use Rattle.parts.proofs.Laws.{by-test}
 use Rattle.fdl.specs.declared.parameters.Parameters.{Parameters}
 use Rattle.station.specs.declared.record.Station.{Station}
@@ -17,6 +17,8 @@ use Rattle.station.specs.State.{stateOf}
 use Rattle.peripheral.specs.declared.record.Peripheral.{Peripheral}
 use Rattle.peripheral.specs.Record.{blank, stationIs}
 use Rattle.peripheral_set.specs.Marks.{slots}
+use Rattle.addresses.specs.Addresses.{elsewhere}
+use Rattle.addresses.proofs.Laws.{none-elsewhere}
 use Rattle.cycle.specs.declared.state.DpMasterState.{DpMasterState}
 use Rattle.cycle.specs.Refusal.{addressRefusal}
 use Rattle.master.specs.declared.unit.DpMaster.{DpMaster}
@@ -85,6 +87,13 @@ marked-in marks i o =
 
 pub marked-below : (m : DpMaster) → Valid m → (i : ℕ) → occupied m i → i < slots
 marked-below m v i o = omega (arith, v .marks, marked-in (m .occupied) i o)
+
+-- where the search finds no other balance at an address, there is none
+pub nobody-else : (m : DpMaster) → Valid m → (slot address : ℕ) → elsewhere (m .occupied) (m .peripherals) slot address ≡ false
+    → (j : ℕ) → occupied m j → (j ≡ slot → ⊥) → balance m j .station .address ≡ address → ⊥
+nobody-else m v slot address s j o d e =
+    let l = marked-below m v j o in
+    none-elsewhere (m .occupied) (m .peripherals) slot address s j l (rw (lt-ltb j slots l, o) refl) d e
 
 -- ---- all balances went on
 

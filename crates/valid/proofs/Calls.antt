@@ -19,7 +19,6 @@ use Rattle.peripheral.specs.Record.{blank, resetOf, stationIs}
 use Rattle.peripheral_set.specs.declared.PeripheralHandle.{PeripheralHandle}
 use Rattle.peripheral_set.specs.Marks.{slots, isOccupied, handleRefusal}
 use Rattle.addresses.specs.Addresses.{elsewhere}
-use Rattle.addresses.proofs.Laws.{none-elsewhere}
 use Rattle.cycle.specs.declared.state.OperatingState.{OperatingState}
 use Rattle.cycle.specs.declared.state.OperatingState.the-variants.{Stop, Clear, Operate}
 use Rattle.cycle.specs.Seen.{indexOf}
@@ -31,7 +30,7 @@ use Rattle.master.specs.Handle.{resetRefusal, resetDone, wishDone}
 use Rattle.master.proofs.Checks.{reset-handle, reset-address, reset-shared}
 use Rattle.valid.specs.Valid.{InForce, Standing, Valid, occupied}
 use Rattle.valid.proofs.Stations.{sound-new, sound-due, fits-due}
-use Rattle.valid.proofs.Balances.{next-same, next-station, valid-kept, valid-set, valid-moved, marked-below, standing-kept}
+use Rattle.valid.proofs.Balances.{next-same, next-station, valid-kept, valid-set, valid-moved, nobody-else, marked-below, standing-kept}
 
 -- ---- creation
 
@@ -150,7 +149,7 @@ reset-changed m k address v o a s =
     (next-station (m .parameters) (getD (m .occupied) k false) p (newStation address) o (λ g. sound-new address (m .parameters .«max_retry_limit») (p .ranges .«diag_room»)))
     (reset-standing m k (resetOf p address) (eqb (m .state .«open_slot») k) refl (v .standing))
     a
-    (λ j c d e. let l = marked-below m v j c in none-elsewhere (m .occupied) (m .peripherals) k address s j l (rw (lt-ltb j slots l, c) refl) d e)
+    (nobody-else m v k address s)
 
 pub reset-valid : (m : DpMaster) (h : PeripheralHandle) (address : ℕ) → Valid m → Valid (resetDone m h address .master)
 unfolding resetDone
