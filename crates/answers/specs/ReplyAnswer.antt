@@ -7,6 +7,7 @@ use lib.ListN.{length}
 use lib.Dec.{eqb, leb}
 use Rattle.fdl.specs.declared.parameters.Parameters.{Parameters}
 use Rattle.fdl.specs.declared.telegram.Telegram.{Telegram}
+use Rattle.payloads.specs.Request.{requestNumbered}
 use Rattle.station.specs.declared.state.PeripheralEvent.{PeripheralEvent}
 use Rattle.station.specs.declared.state.PeripheralEvent.the-variants.{NoEvent, Online, Configured, ConfigError, ParameterError, DataExchanged, Diagnostics, Offline as WentOffline}
 use Rattle.peripheral.specs.declared.record.Peripheral.{Peripheral}
@@ -66,4 +67,4 @@ judgedBy n marks s p r = cond (eqb n 0) (judgedAccepted marks s p r) (judgedRefu
 -- u, s, marks: the unit's parameters, state and marks; p: the balance with the open request
 unfoldable pub judgedOf : Parameters → DpMasterState → Peripheral → List Bool → ℕ → Telegram → List ℕ → ℕ → ℕ → Judged
 judgedOf u s p marks address t payload inputs diags =
-    judgedBy (replyRefusal u s (p .station .address) address t (length payload) inputs diags) marks s p (replyOf t p payload inputs diags)
+    judgedBy (replyRefusal u s (p .station .address) address t (length payload) inputs diags) marks s p (replyOf (requestNumbered (s .«open_kind»)) t p payload inputs diags)

@@ -4,6 +4,7 @@ ghost use Rattle.answers.specs.ReplyAnswer.{eventHandle, refusedReply, j
 use cycle::state::DpMasterState;
 use fdl::parameters::Parameters;
 use fdl::telegram::Telegram;
+use payloads::request::Request;
 use peripheral::record::Peripheral;
 use peripheral::response::Keeps;
 use peripheral_set::PeripheralHandle;
@@ -103,7 +104,8 @@ pub fn judge(
             answer: ReplyAnswer::refused(refusal),
         };
     }
-    let r = p.receive_reply(telegram, payload, inputs, diags);
+    let kind = Request::of(s.open_kind);
+    let r = p.receive_reply(kind, telegram, payload, inputs, diags);
     let q = r.peripheral;
     let event = r.event;
     let keeps = r.keeps;

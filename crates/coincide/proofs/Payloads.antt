@@ -14,6 +14,10 @@ use Rattle.payloads.proofs.request.control_header.Kinds as K·request-control-h
 use Rattle.payloads.proofs.request.control_header.Reads as R·request-control-header
 use Rattle.payloads.proofs.request.Request.number.Kinds as K·request-Request-number
 use Rattle.payloads.proofs.request.Request.number.Reads as R·request-Request-number
+use Rattle.payloads.proofs.request.Request.of.Kinds as K·request-Request-of
+use Rattle.payloads.proofs.request.Request.of.Reads as R·request-Request-of
+use Rattle.payloads.proofs.request.Request.is_data.Kinds as K·request-Request-is-data
+use Rattle.payloads.proofs.request.Request.is_data.Reads as R·request-Request-is-data
 use Rattle.payloads.proofs.request.Request.header.Kinds as K·request-Request-header
 use Rattle.payloads.proofs.request.Request.header.Reads as R·request-Request-header
 use Rattle.payloads.proofs.write.write_parameters.Kinds as K·write-write-parameters
@@ -45,6 +49,12 @@ request-control-header κs a z y e f p q = same p q
 
 pub request-Request-number : Coincide 0 K·request-Request-number.ps K·request-Request-number.r R·request-Request-number.Learnt (λ κs z y e f. z ≡ y)
 request-Request-number κs a z y e f p q = same p q
+
+pub request-Request-of : Coincide 0 K·request-Request-of.ps K·request-Request-of.r R·request-Request-of.Learnt (λ κs z y e f. z ≡ y)
+request-Request-of κs a z y e f p q = same p q
+
+pub request-Request-is-data : Coincide 0 K·request-Request-is-data.ps K·request-Request-is-data.r R·request-Request-is-data.Learnt (λ κs z y e f. z ≡ y)
+request-Request-is-data κs a z y e f p q = same p q
 
 pub request-Request-header : Coincide 0 K·request-Request-header.ps K·request-Request-header.r R·request-Request-header.Learnt (λ κs z y e f. z ≡ y)
 request-Request-header κs a z y e f p q = same p q

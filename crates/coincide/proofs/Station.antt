@@ -27,8 +27,8 @@ use Rattle.station.proofs.state.PeripheralState.is_live.Kinds as K·state-Perip
 use Rattle.station.proofs.state.PeripheralState.is_live.Reads as R·state-PeripheralState-is-live
 use Rattle.station.proofs.state.PeripheralState.is_running.Kinds as K·state-PeripheralState-is-running
 use Rattle.station.proofs.state.PeripheralState.is_running.Reads as R·state-PeripheralState-is-running
-use Rattle.station.proofs.record.Station.request.Kinds as K·record-Station-request
-use Rattle.station.proofs.record.Station.request.Reads as R·record-Station-request
+use Rattle.station.proofs.record.Station.judged_as.Kinds as K·record-Station-judged-as
+use Rattle.station.proofs.record.Station.judged_as.Reads as R·record-Station-judged-as
 use Rattle.station.proofs.record.Station.action.Kinds as K·record-Station-action
 use Rattle.station.proofs.record.Station.action.Reads as R·record-Station-action
 use Rattle.station.proofs.record.Station.diagnosis_heard.Kinds as K·record-Station-diagnosis-heard
@@ -76,8 +76,8 @@ state-PeripheralState-is-live κs a z y e f p q = same p q
 pub state-PeripheralState-is-running : Coincide 0 K·state-PeripheralState-is-running.ps K·state-PeripheralState-is-running.r R·state-PeripheralState-is-running.Learnt (λ κs z y e f. z ≡ y)
 state-PeripheralState-is-running κs a z y e f p q = same p q
 
-pub record-Station-request : Coincide 0 K·record-Station-request.ps K·record-Station-request.r R·record-Station-request.Learnt (λ κs z y e f. z ≡ y)
-record-Station-request κs a z y e f p q = same p q
+pub record-Station-judged-as : Coincide 0 K·record-Station-judged-as.ps K·record-Station-judged-as.r R·record-Station-judged-as.Learnt (λ κs z y e f. z ≡ y)
+record-Station-judged-as κs a z y e f p q = same p q
 
 pub record-Station-action : Coincide 0 K·record-Station-action.ps K·record-Station-action.r R·record-Station-action.Learnt (λ κs z y e f. z ≡ y)
 record-Station-action κs a z y e f p q = same p q

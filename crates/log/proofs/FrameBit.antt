@@ -28,9 +28,8 @@ use Rattle.log.specs.Notes.{Note, turnOf, slotAsked}
 use Rattle.log.specs.Entries.{Entry, slotLog}
 use Rattle.log.specs.Run.{run}
 use Rattle.log.specs.Slots.{cycles, frameBit, BitTold, bitSent, SentBitTold}
-use Rattle.station.proofs.Rows.{comes-online, stays-offline, param-confirmed, param-unconfirmed, config-confirmed, config-unconfirmed, param-error, config-error, param-wanted, not-ready, is-configured, unvalidated, diagnosed, undiagnosed, diagnosed-late, undiagnosed-late, data-stored, data-unused, data-denied}
+use Rattle.station.proofs.Rows.{comes-online, stays-offline, param-confirmed, param-unconfirmed, config-confirmed, config-unconfirmed, param-error, config-error, param-wanted, not-ready, is-configured, unvalidated, diagnosed, undiagnosed, data-stored, data-unused, data-denied}
 use Rattle.log.proofs.Lives.{Slot, RowOf, SlotFact, always, last-asked}
-use Rattle.log.proofs.Stations.{told}
 use Rattle.log.proofs.Units.{Inv}
 use Rattle.log.proofs.Turning.{sent-there, asked-is}
 use Rattle.log.proofs.Steps.{valid-step, always-valid}
@@ -44,7 +43,7 @@ back High = refl
 back Inactive = refl
 
 bit-row : (s : Station) (t : Telegram) (payload : List ℕ) (n : ℕ) {k : Request} {h : Heard} → RowOf s t payload n k h
-    → bitOf (h .station .fcb) ≡ cond (cycles (some k) (s .«diag_needed») t payload) (cycled (bitOf (s .fcb))) (bitOf (s .fcb))
+    → bitOf (h .station .fcb) ≡ cond (cycles (some k) t payload) (cycled (bitOf (s .fcb))) (bitOf (s .fcb))
 unfolding withDiagnosis
 bit-row s t payload n (comes-online x e) = rw e (back _)
 bit-row s t payload n (stays-offline x e) = rw e refl
@@ -58,13 +57,11 @@ bit-row s t payload n (param-wanted x e a b c) = rw e (back _)
 bit-row s t payload n (not-ready x e a b c d) = rw e (back _)
 bit-row s t payload n (is-configured x e a b c d) = rw e (back _)
 bit-row s t payload n (unvalidated x e) = rw e refl
-bit-row s t payload n (diagnosed x d e) = rw e (back _)
-bit-row s t payload n (undiagnosed x d e) = rw e refl
-bit-row s t payload n (diagnosed-late x d e) = rw (d, e) (back _)
-bit-row s t payload n (undiagnosed-late x d e) = rw (d, e) refl
-bit-row s t payload n (data-stored j x d e f) = rw d (back _)
-bit-row s t payload n (data-unused j x d e f) = rw d (back _)
-bit-row s t payload n (data-denied x d e f) = rw d (back _)
+bit-row s t payload n (diagnosed x e) = rw e (back _)
+bit-row s t payload n (undiagnosed x e) = rw e refl
+bit-row s t payload n (data-stored j x e f) = back _
+bit-row s t payload n (data-unused j x e f) = back _
+bit-row s t payload n (data-denied x e f) = back _
 
 bit-fact : (limit : ℕ) → SlotFact limit (λ (x : Slot) (l : List Note). bitOf (x .balance .station .fcb) ≡ frameBit l)
 bit-fact limit =
@@ -76,7 +73,7 @@ bit-fact limit =
       on-fell = λ v i e. i;
       on-skipped = λ v i e. i;
       on-rest = λ v i. i;
-      on-reply = λ {x} v i q t payload n h o r. rw (last-asked v o, ← told v .due-is, ← i) (bit-row (x .balance .station) t payload n r);
+      on-reply = λ {x} v i q t payload n h o r. rw (last-asked v o, ← i) (bit-row (x .balance .station) t payload n r);
     }
 
 pub bit-told : BitTold

@@ -14,5 +14,6 @@ pub mod Promised
 pub mod SlotFacts
 pub mod Running
 pub mod FrameBit
+pub mod Exchanged
 pub mod Life
 pub mod Wrong

@@ -69,9 +69,9 @@ pub pools-then : _≡_ {A = Pools} (afterAll (afterAll (run bench benchPools [] 
 unfolding step creationRefusal inForce createdOf emptyUnit refusalOf elsewhereFrom searchFrom turnRefusal controlDue actionOf sweptBy sweepFrom turnPayload turnAnswer controlPayload payloadOf paramHead inside part splice roomFor putIn replyRefusal replyAt answerTo keepsOf diagnosisAnswer diagnosisKeeps stationDiagnosed partFits fitsImage diagnosisOf withDiagnosis byFlags resetDone wishDone foundIn writeRefusal
 pools-then = refl
 
--- and at the end of the second: what came while a diagnosis was due was not stored
+-- and at the end of the second: the weight that came while a diagnosis was due is kept
 pub second-pools : _≡_ {A = Pools} (afterAll (afterAll (afterAll (run pairBench pairPools [] .world) (callsOf offlineTogether)) (callsOf setUpErrors)) (callsOf wishedWhileOpen) .pools)
-    (record { setup = 0xA1 ∷ 0xA2 ∷ 0x31 ∷ 0x10 ∷ []; inputs = 33 ∷ 44 ∷ 0 ∷ []; outputs = 0 ∷ 0 ∷ []; diags = [] })
+    (record { setup = 0xA1 ∷ 0xA2 ∷ 0x31 ∷ 0x10 ∷ []; inputs = 11 ∷ 22 ∷ 0 ∷ []; outputs = 0 ∷ 0 ∷ []; diags = [] })
 unfolding step creationRefusal inForce createdOf emptyUnit refusalOf elsewhereFrom searchFrom turnRefusal controlDue actionOf sweptBy sweepFrom turnPayload turnAnswer controlPayload payloadOf paramHead inside part splice roomFor putIn replyRefusal replyAt answerTo keepsOf diagnosisAnswer diagnosisKeeps stationDiagnosed partFits fitsImage diagnosisOf withDiagnosis byFlags resetDone wishDone foundIn writeRefusal
 second-pools = refl
 

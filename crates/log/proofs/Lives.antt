@@ -3,7 +3,7 @@
 use mathlib.Core.Path.{_≡_, refl}
 use Prim.Native.Nat.{ℕ}
 use mathlib.Core.List.{List, _∷_}
-use mathlib.Core.Bool.{Bool, true, cond}
+use mathlib.Core.Bool.{Bool, true, not, cond}
 use mathlib.Core.Option.{Option, none, some}
 use lib.Dec.{T}
 use lib.ListN.{length}
@@ -13,7 +13,7 @@ use Rattle.fdl.specs.declared.telegram.Telegram.{Telegram}
 use Rattle.fdl.specs.declared.telegram.Telegram.the-variants.{ShortConfirmation, Data as DataReply, Token, Request as RequestTelegram}
 use Rattle.payloads.specs.declared.request.Request.{Request}
 use Rattle.payloads.specs.declared.request.Request.the-variants.{Diagnosis, Parameters, Configuration, Data}
-use Rattle.payloads.specs.Request.{kindNumber, isDiagnosis}
+use Rattle.payloads.specs.Request.{kindNumber, isData}
 use Rattle.payloads.specs.Diagnosis.{diagnosisOf, taken}
 use Rattle.station.specs.declared.visit.Visited.{Visited}
 use Rattle.station.specs.declared.visit.Visited.the-variants.{Sends, Drops, Skips}
@@ -23,9 +23,9 @@ use Rattle.station.specs.declared.state.PeripheralState.{PeripheralState}
 use Rattle.station.specs.declared.state.PeripheralState.the-variants.{Offline, WaitForParam, WaitForConfig, ValidateConfig, PreDataExchange, DataExchange}
 use Rattle.station.specs.State.{stateOf}
 use Rattle.station.specs.Record.{dueIs, withDiagnosis}
-use Rattle.station.specs.Visit.{requestIn, requestOf, visitedOf}
+use Rattle.station.specs.Visit.{requestIn, judgedAs, visitedOf}
 use Rattle.station.specs.Heard.{isExchanged}
-use Rattle.station.proofs.Rows.{exchanging, coded, ReplyRow, heardFor, diagnosis-row, parameters-row, configuration-row, data-row}
+use Rattle.station.proofs.Rows.{coded, ReplyRow, reply-row}
 use Rattle.peripheral.specs.declared.record.Peripheral.{Peripheral}
 use Rattle.peripheral.specs.Record.{resetOf, stationIs}
 use Rattle.peripheral.specs.Visit.{visitAction, visitedBy}
@@ -37,7 +37,6 @@ use Rattle.cycle.specs.declared.refusal.Lengths.{Lengths}
 use Rattle.master.specs.declared.unit.DpMaster.{DpMaster}
 use Rattle.master.specs.declared.add.Addition.{Addition}
 use Rattle.master.specs.Add.{newcomer, lengthsOf}
-use Rattle.log.proofs.Wording.{is-true}
 use Rattle.log.specs.Notes.{Note, wasAdded, readdressed, wished, wentOffline, asked, got}
 use Rattle.log.specs.Words.{lastAsked, hasStatus}
 
@@ -107,39 +106,33 @@ module _ {limit : ℕ} {x : Slot} {l : List Note} (i : Lives limit x l) where
   pub lives-visited : Lives limit (slotOf (kindOf (visitAction limit (x .balance))) (visitedBy limit (x .balance)) (x .image)) (visitNote (visitAction limit (x .balance)) l)
   lives-visited = visit-lives (visitAction limit (x .balance)) refl
 
--- ---- a reply to the open request is in a row
+-- ---- a reply to the open request is judged as its answer, and is in a row
 
-fits-diagnosis : (x : PeripheralState) (d : Bool) → T (fits x d (kindNumber Diagnosis)) → isDiagnosis (requestIn x d) ≡ true
-fits-diagnosis Offline d h = refl
-fits-diagnosis WaitForParam d h = absurd h
-fits-diagnosis WaitForConfig d h = absurd h
-fits-diagnosis ValidateConfig d h = refl
-fits-diagnosis PreDataExchange d h = rw (is-true d h) refl
-fits-diagnosis DataExchange d h = rw (is-true d h) refl
-
-fits-parameters : (x : PeripheralState) (d : Bool) → T (fits x d (kindNumber Parameters)) → x ≡ WaitForParam
-fits-parameters Offline d h = absurd h
-fits-parameters WaitForParam d h = refl
-fits-parameters WaitForConfig d h = absurd h
-fits-parameters ValidateConfig d h = absurd h
-fits-parameters PreDataExchange d h = absurd h
-fits-parameters DataExchange d h = absurd h
-
-fits-configuration : (x : PeripheralState) (d : Bool) → T (fits x d (kindNumber Configuration)) → x ≡ WaitForConfig
-fits-configuration Offline d h = absurd h
-fits-configuration WaitForParam d h = absurd h
-fits-configuration WaitForConfig d h = refl
-fits-configuration ValidateConfig d h = absurd h
-fits-configuration PreDataExchange d h = absurd h
-fits-configuration DataExchange d h = absurd h
-
-fits-data : (x : PeripheralState) (d : Bool) → T (fits x d (kindNumber Data)) → exchanging x ≡ true
-fits-data Offline d h = absurd h
-fits-data WaitForParam d h = absurd h
-fits-data WaitForConfig d h = absurd h
-fits-data ValidateConfig d h = absurd h
-fits-data PreDataExchange d h = refl
-fits-data DataExchange d h = refl
+fits-judged : (k : Request) (x : PeripheralState) (d : Bool) → T (fits x d (kindNumber k)) → requestIn x (not (isData k)) ≡ k
+fits-judged Diagnosis Offline d h = refl
+fits-judged Diagnosis WaitForParam d h = absurd h
+fits-judged Diagnosis WaitForConfig d h = absurd h
+fits-judged Diagnosis ValidateConfig d h = refl
+fits-judged Diagnosis PreDataExchange d h = refl
+fits-judged Diagnosis DataExchange d h = refl
+fits-judged Parameters Offline d h = absurd h
+fits-judged Parameters WaitForParam d h = refl
+fits-judged Parameters WaitForConfig d h = absurd h
+fits-judged Parameters ValidateConfig d h = absurd h
+fits-judged Parameters PreDataExchange d h = absurd h
+fits-judged Parameters DataExchange d h = absurd h
+fits-judged Configuration Offline d h = absurd h
+fits-judged Configuration WaitForParam d h = absurd h
+fits-judged Configuration WaitForConfig d h = refl
+fits-judged Configuration ValidateConfig d h = absurd h
+fits-judged Configuration PreDataExchange d h = absurd h
+fits-judged Configuration DataExchange d h = absurd h
+fits-judged Data Offline d h = absurd h
+fits-judged Data WaitForParam d h = absurd h
+fits-judged Data WaitForConfig d h = absurd h
+fits-judged Data ValidateConfig d h = absurd h
+fits-judged Data PreDataExchange d h = refl
+fits-judged Data DataExchange d h = refl
 
 status-is : (n : ℕ) (t : Telegram) → coded n t ≡ hasStatus n t
 status-is n ShortConfirmation = refl
@@ -148,16 +141,12 @@ status-is n Token = refl
 status-is n RequestTelegram = refl
 
 module _ (t : Telegram) (p : Peripheral) (payload : List ℕ) (inputs diags : ℕ) where
-  coded-row : (k : Request) → Fits (p .station) (kindNumber k)
-      → ReplyRow (p .station) (stationDiagnosed p payload diags) t (taken t (length payload)) (coded 3 t) (coded 10 t) k (heardFor (requestOf (p .station)) t (taken t (length payload)) (stationDiagnosed p payload diags) (fitsImage t p (length payload) inputs) (p .station))
-  coded-row Diagnosis f = diagnosis-row _ _ _ _ _ (fits-diagnosis (stateOf (p .station .state)) (p .station .«diag_needed») f)
-  coded-row Parameters f = parameters-row _ _ _ _ _ (fits-parameters (stateOf (p .station .state)) (p .station .«diag_needed») f)
-  coded-row Configuration f = configuration-row _ _ _ _ _ (fits-configuration (stateOf (p .station .state)) (p .station .«diag_needed») f)
-  coded-row Data f = data-row _ _ _ _ _ (fits-data (stateOf (p .station .state)) (p .station .«diag_needed») f)
-
-  pub replied-row : (k : Request) → Fits (p .station) (kindNumber k) → RowOf (p .station) t payload (payloadPart p payload diags .len) k (answerTo (requestOf (p .station)) t p payload inputs diags)
+  pub replied-row : (k : Request) → Fits (p .station) (kindNumber k) → RowOf (p .station) t payload (payloadPart p payload diags .len) k (answerTo (judgedAs k (p .station)) t p payload inputs diags)
   unfolding stationDiagnosed
-  replied-row k f = rw (← status-is 3 t, ← status-is 10 t, answer-heard (requestOf (p .station)) t p payload inputs diags) (coded-row k f)
+  replied-row k f =
+      let e = fits-judged k (stateOf (p .station .state)) (p .station .«diag_needed») f in
+      let row = reply-row (p .station) (stationDiagnosed p payload diags) t (taken t (length payload)) (fitsImage t p (length payload) inputs) k in
+      rw (e, ← status-is 3 t, ← status-is 10 t, answer-heard k t p payload inputs diags) (rw e at row)
 
 -- ---- the open request is the one that was asked last, and fits the state
 
@@ -186,8 +175,11 @@ module _ {limit : ℕ} {x : Slot} {l : List Note} {q : Request} (v : Lives limit
   pub last-asked : lastAsked l ≡ some q
   last-asked = open-is .0
 
+  pub judged-is : judgedAs q (x .balance .station) ≡ q
+  judged-is = fits-judged q (stateOf (x .balance .station .state)) (x .balance .station .«diag_needed») (open-is .1)
+
   -- the request that is open is answered
-  pub replies : (t : Telegram) (payload : List ℕ) (inputs diags : ℕ) → let h = answerTo (requestOf (x .balance .station)) t (x .balance) payload inputs diags in Lives limit (heardSlot t payload h x) (got t payload (h .event) ∷ l)
+  pub replies : (t : Telegram) (payload : List ℕ) (inputs diags : ℕ) → let h = answerTo (judgedAs q (x .balance .station)) t (x .balance) payload inputs diags in Lives limit (heardSlot t payload h x) (got t payload (h .event) ∷ l)
   replies t payload inputs diags = gets v o (payloadPart (x .balance) payload diags .len) (replied-row t (x .balance) payload inputs diags q (open-is .1))
 
 -- ---- a fact of slots, as its laws; each may use what is known of the slot before

@@ -223,7 +223,7 @@ first-told u pools cs a user config lent e =
     rw e (first-empty w (run u pools cs .log) (inv-run u pools cs) a user config lent (eqb-true (addNumber a user config lent w) 0 e))
 
 -- the number of an accepted reply
-reply-done : (w : World) (address : ℕ) (t : _) (payload : List ℕ) (ni nd : ℕ) → accepted (step w (reply address t payload ni nd) .answer) ≡ true → replyNumber address t payload ni nd w ≡ 0
+pub reply-done : (w : World) (address : ℕ) (t : _) (payload : List ℕ) (ni nd : ℕ) → accepted (step w (reply address t payload ni nd) .answer) ≡ true → replyNumber address t payload ni nd w ≡ 0
 unfolding step
 reply-done w address t payload ni nd e =
     let n = replyNumber address t payload ni nd w in

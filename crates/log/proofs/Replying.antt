@@ -27,7 +27,7 @@ use Rattle.cycle.proofs.Laws.{reply-open, reply-inputs}
 use Rattle.answers.specs.declared.reply_answer.ReplyAnswer.{ReplyAnswer}
 use Rattle.master.specs.declared.unit.DpMaster.{DpMaster}
 use Rattle.master.specs.Unit.{stateIs, balancesAre}
-use Rattle.master.specs.Receive.{openBalance, replyAt}
+use Rattle.master.specs.Receive.{openBalance, openRequest, replyAt}
 use Rattle.valid.specs.Valid.{Valid, balance, occupied}
 use Rattle.valid.proofs.Balances.{marked-below, open-there}
 use Rattle.master.specs.Pools.{lend, back}
@@ -37,7 +37,7 @@ use Rattle.log.specs.Entries.{Entry, target, Place, slotLog, placeNext, 
 use Rattle.log.specs.Promises.{frameIn}
 use Rattle.log.proofs.Lives.{rests, replies}
 use Rattle.log.proofs.Lent.{lent-same, lent-back}
-use Rattle.log.proofs.Units.{openKind, openAt, LivesAt, Inv, InvAt, none-open, at-set}
+use Rattle.log.proofs.Units.{openAt, LivesAt, Inv, InvAt, none-open, at-set}
 
 closes : (next : ℕ) (s : DpMasterState) → eqb (answered next s .«open_kind») 0 ≡ true
 closes next s = by-test (ltb next slots) (λ e. rw e refl) (λ e. rw e refl)
@@ -89,13 +89,13 @@ module _ (w : World) (l : List Entry) (i : Inv w l) (address : ℕ) (r : Telegra
   pool : List ℕ
   pool = lend ni (w .pools .inputs)
 
-  is-open : eqb (w .unit .state .«open_kind») 0 ≡ false
+  pub is-open : eqb (w .unit .state .«open_kind») 0 ≡ false
   is-open = reply-open (w .unit .parameters) (w .unit .state) (openBalance (w .unit) .station .address) address r (length payload) (length (lend ni (w .pools .inputs))) (length (lend nd (w .pools .diags))) z
 
-  pool-length : length (lend ni (w .pools .inputs)) ≡ w .unit .parameters .«input_pool»
+  pub pool-length : length (lend ni (w .pools .inputs)) ≡ w .unit .parameters .«input_pool»
   pool-length = reply-inputs (w .unit .parameters) (w .unit .state) (openBalance (w .unit) .station .address) address r (length payload) (length (lend ni (w .pools .inputs))) (length (lend nd (w .pools .diags))) z
 
-  there : occupied (w .unit) (w .unit .state .«open_slot»)
+  pub there : occupied (w .unit) (w .unit .state .«open_slot»)
   there = open-there (w .unit) (i .valid) is-open .there
 
   below : w .unit .state .«open_slot» < slots
@@ -104,25 +104,24 @@ module _ (w : World) (l : List Entry) (i : Inv w l) (address : ℕ) (r : Telegra
   pub reply-moves : Moved l (placeReplied (frameOf l .marks) (target l) (frameOf l .place))
   reply-moves = let k = i .aimed is-open in rw k (next-place l (w .unit .state .«open_slot») k below)
 
-  index-is : indexOf (w .unit .state .«open_slot») ≡ w .unit .state .«open_slot»
+  pub index-is : indexOf (w .unit .state .«open_slot») ≡ w .unit .state .«open_slot»
   index-is = rw (lt-ltb (w .unit .state .«open_slot») slots below) refl
 
   -- the inputs as they are lent before and after
   event : PeripheralEvent
-  event = replyOf r p payload (length pool) (length (lend nd (w .pools .diags))) .event
+  event = replyOf (openRequest (w .unit)) r p payload (length pool) (length (lend nd (w .pools .diags))) .event
 
   image-here : inputImage p (inputsOf event (carried r payload) p pool) ≡ cond (isExchanged event) (carried r payload) (inputImage p pool)
   unfolding event
   image-here =
-      by-test (isExchanged event) (λ e. exchanged-image r p payload pool (lend nd (w .pools .diags)) e ∙ rw e refl)
+      by-test (isExchanged event) (λ e. exchanged-image r p payload pool (lend nd (w .pools .diags)) (openRequest (w .unit)) e ∙ rw e refl)
       (λ e. ap (inputImage p) (inputs-kept event (carried r payload) p pool e) ∙ rw e refl)
 
   image-there : (s : ℕ) → occupied (w .unit) s → (s ≡ x → ⊥) → inputImage (balance (w .unit) s) (inputsOf event (carried r payload) p pool) ≡ inputImage (balance (w .unit) s) pool
   unfolding p x
   image-there s o d = inputs-other event (carried r payload) p pool (balance (w .unit) s .ranges .inputs) (balance (w .unit) s .ranges .«input_len») (i .valid .apart s x o there d .inputs)
 
-  seen : (s : ℕ) → occupied (w .unit) s → LivesAt (w .unit .parameters .«max_retry_limit») (w .unit .state) (w .unit .peripherals) pool s (slotLog s l)
-  unfolding pool
+  pub seen : (s : ℕ) → occupied (w .unit) s → LivesAt (w .unit .parameters .«max_retry_limit») (w .unit .state) (w .unit .peripherals) (lend ni (w .pools .inputs)) s (slotLog s l)
   seen s o = rw (lent-same ni (w .unit .parameters .«input_pool») (w .pools .inputs) pool-length) (i .lives s o)
 
   inputs-after : lend (w .unit .parameters .«input_pool») (back ni (inputsOf event (carried r payload) p pool) (w .pools .inputs)) ≡ inputsOf event (carried r payload) p pool
@@ -130,16 +129,15 @@ module _ (w : World) (l : List Entry) (i : Inv w l) (address : ℕ) (r : Telegra
   inputs-after = lent-back ni (w .unit .parameters .«input_pool») (w .pools .inputs) pool-length _ (inputs-length event (carried r payload) p pool)
 
   -- its request is open
-  asked-here : openAt (w .unit .state) x ≡ some (openKind (w .unit .state .«open_kind»))
-  unfolding x
+  pub asked-here : openAt (w .unit .state) (w .unit .state .«open_slot») ≡ some (openRequest (w .unit))
   asked-here = rw (eq-eqb (w .unit .state .«open_slot») (w .unit .state .«open_slot») refl, is-open) refl
 
   -- the reply at that slot
   inv-at : (a : ReplyAnswer) (diags : List ℕ) (next : ℕ) → a .event ≡ event → next ≡ nextAfter (w .unit .occupied) x
-      → let m : DpMaster = stateIs (answered next (w .unit .state)) (balancesAre (set (w .unit .peripherals) x (replyOf r p payload (length pool) (length (lend nd (w .pools .diags))) .peripheral)) (w .unit)) in
+      → let m : DpMaster = stateIs (answered next (w .unit .state)) (balancesAre (set (w .unit .peripherals) x (replyOf (openRequest (w .unit)) r p payload (length pool) (length (lend nd (w .pools .diags))) .peripheral)) (w .unit)) in
       Valid m
       → InvAt (reply address r payload ni nd) (replied a) (record { unit = m; pools = record { setup = w .pools .setup; inputs = back ni (inputsOf event (carried r payload) p pool) (w .pools .inputs); outputs = w .pools .outputs; diags = diags } }) l
-  unfolding event x p
+  unfolding event x p pool
   inv-at a diags next ea en v =
       let k = i .aimed is-open in
       record {

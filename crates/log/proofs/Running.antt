@@ -20,9 +20,8 @@ use Rattle.log.specs.Notes.{Note, isError}
 use Rattle.log.specs.Words.{denies, fall, notEnabled}
 use Rattle.log.specs.Slots.{exchangedBy, Running, RunningTold}
 use Rattle.log.proofs.Wording.{and-l, and-r, and-i, or-e, or-l, or-r}
-use Rattle.station.proofs.Rows.{comes-online, stays-offline, param-confirmed, param-unconfirmed, config-confirmed, config-unconfirmed, param-error, config-error, param-wanted, not-ready, is-configured, unvalidated, diagnosed, undiagnosed, diagnosed-late, undiagnosed-late, data-stored, data-unused, data-denied}
+use Rattle.station.proofs.Rows.{comes-online, stays-offline, param-confirmed, param-unconfirmed, config-confirmed, config-unconfirmed, param-error, config-error, param-wanted, not-ready, is-configured, unvalidated, diagnosed, undiagnosed, data-stored, data-unused, data-denied}
 use Rattle.log.proofs.Lives.{Slot, RowOf, Lives, joins, moves, wishes, sends, lost, skips, rests, gets, last-asked}
-use Rattle.log.proofs.Stations.{told}
 use Rattle.log.proofs.Promised.{lives-run}
 
 -- ---- the walk
@@ -34,7 +33,7 @@ runs (x ∷ l) = exchangedBy (x ∷ l) || (not (fall (x ∷ l)) && (not (notEnab
 -- ---- the fact
 
 running-row : (s : Station) (t : Telegram) (payload : List ℕ) (n : ℕ) {k : Request} {h : Heard} → RowOf s t payload n k h
-    → isRunning (h .station) ≡ (isExchanged (h .event) || (not (isError (h .event)) && (not (denies (some k) (s .«diag_needed») t) && isRunning s)))
+    → isRunning (h .station) ≡ (isExchanged (h .event) || (not (isError (h .event)) && (not (denies (some k) t) && isRunning s)))
 unfolding withDiagnosis
 running-row s t payload n (comes-online x e) = rw x refl
 running-row s t payload n (stays-offline x e) = refl
@@ -48,13 +47,11 @@ running-row s t payload n (param-wanted x e a b c) = rw x refl
 running-row s t payload n (not-ready x e a b c d) = refl
 running-row s t payload n (is-configured x e a b c d) = rw x refl
 running-row s t payload n (unvalidated x e) = refl
-running-row s t payload n (diagnosed x d e) = refl
-running-row s t payload n (undiagnosed x d e) = refl
-running-row s t payload n (diagnosed-late x d e) = rw d refl
-running-row s t payload n (undiagnosed-late x d e) = rw d refl
-running-row s t payload n (data-stored j x d e f) = refl
-running-row s t payload n (data-unused j x d e f) = rw (d, e) refl
-running-row s t payload n (data-denied x d e f) = rw (d, e) refl
+running-row s t payload n (diagnosed x e) = refl
+running-row s t payload n (undiagnosed x e) = refl
+running-row s t payload n (data-stored j x e f) = refl
+running-row s t payload n (data-unused j x e f) = rw e refl
+running-row s t payload n (data-denied x e f) = rw e refl
 
 pub running : {limit : ℕ} {x : Slot} {l : List Note} → Lives limit x l → isRunning (x .balance .station) ≡ runs l
 running (joins a user config m l) = refl
@@ -64,7 +61,7 @@ running (sends v e) = running v
 running (lost v e) = refl
 running (skips v e) = running v
 running (rests v) = running v
-running (gets {x = x} {t = t} {payload = payload} v o n r) = rw (last-asked v o, ← told v .due-is, ← running v) (running-row (x .balance .station) t payload n r)
+running (gets {x = x} {t = t} {payload = payload} v o n r) = rw (last-asked v o, ← running v) (running-row (x .balance .station) t payload n r)
 
 -- ---- by positions
 

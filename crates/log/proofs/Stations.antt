@@ -24,7 +24,7 @@ use Rattle.station.proofs.Visits.{drops, sendsData, action-drops, action-data}
 use Rattle.log.specs.Notes.{Note, isError, isDiagnosed}
 use Rattle.log.specs.Words.{confirms, denies, warns, cleans, dueOf, imageOf}
 use Rattle.log.proofs.Wording.{is-true, and-l, and-r, hasParam, hasConfig, ready}
-use Rattle.station.proofs.Rows.{exchanging, comes-online, stays-offline, param-confirmed, param-unconfirmed, config-confirmed, config-unconfirmed, param-error, config-error, param-wanted, not-ready, is-configured, unvalidated, diagnosed, undiagnosed, diagnosed-late, undiagnosed-late, data-stored, data-unused, data-denied}
+use Rattle.station.proofs.Rows.{exchanging, comes-online, stays-offline, param-confirmed, param-unconfirmed, config-confirmed, config-unconfirmed, param-error, config-error, param-wanted, not-ready, is-configured, unvalidated, diagnosed, undiagnosed, data-stored, data-unused, data-denied}
 use Rattle.log.proofs.Lives.{Slot, RowOf, Lives, joins, moves, wishes, sends, lost, skips, rests, gets, last-asked}
 
 -- ---- what is said
@@ -47,11 +47,11 @@ no-and : (a : Bool) → (a && false) ≡ false
 no-and true = refl
 no-and false = refl
 
-and-so : (a : Bool) → (a && true) ≡ a
+pub and-so : (a : Bool) → (a && true) ≡ a
 and-so true = refl
 and-so false = refl
 
-or-no : (a : Bool) → (a || false) ≡ a
+pub or-no : (a : Bool) → (a || false) ≡ a
 or-no true = refl
 or-no false = refl
 
@@ -107,7 +107,7 @@ record Kept (h : Heard) (a c n j q hp hc rd d : Bool) : Type 0 where
 
 -- the words of a reply to a request of kind k
 abbrev KeptBy : Heard → Option Request → Telegram → List ℕ → (hp hc rd d : Bool) → Type 0
-KeptBy h k t payload hp hc rd d = Kept h (confirms Parameters k t) (confirms Configuration k t) (denies k d t) (warns k d t) (cleans k t payload) hp hc rd d
+KeptBy h k t payload hp hc rd d = Kept h (confirms Parameters k t) (confirms Configuration k t) (denies k t) (warns k t) (cleans k t payload) hp hc rd d
 
 -- not ready, and not made so
 not-yet : (hc rd : Bool) → T (not rd) → T (not (rd || (hc && false)))
@@ -152,13 +152,11 @@ module _ (s : Station) (t : Telegram) (payload : List ℕ) (hp hc rd : Bool) (h 
   kept n (not-ready x e a b c d) = record { due-ok = refl; phase-ok = rw (e, a, b, c, d) same }
   kept n (is-configured x e a b c d) = record { due-ok = refl; phase-ok = rw (e, a, b, c, d) (by-clean hp hc rd (rw x at h)) }
   kept n (unvalidated x e) = record { due-ok = refl; phase-ok = rw e same }
-  kept n (diagnosed x d e) = let r = settled x in record { due-ok = refl; phase-ok = rw (r .0, r .1) (rw (r .0, r .1) at h) }
-  kept n (undiagnosed x d e) = record { due-ok = refl; phase-ok = rw e same }
-  kept n (diagnosed-late x d e) = record { due-ok = refl; phase-ok = rw d same }
-  kept n (undiagnosed-late x d e) = record { due-ok = rw d refl; phase-ok = rw d same }
-  kept n (data-stored j x d e f) = let r = settled x in record { due-ok = rw (d, f) refl; phase-ok = rw (d, e, r .0, r .1) tt }
-  kept n (data-unused j x d e f) = record { due-ok = rw (d, f) refl; phase-ok = rw (d, e) same }
-  kept n (data-denied x d e f) = let r = settled x in record { due-ok = rw (d, f) refl; phase-ok = rw (d, e, r .0) tt }
+  kept n (diagnosed x e) = let r = settled x in record { due-ok = refl; phase-ok = rw (r .0, r .1) (rw (r .0, r .1) at h) }
+  kept n (undiagnosed x e) = record { due-ok = refl; phase-ok = rw e same }
+  kept n (data-stored j x e f) = let r = settled x in record { due-ok = rw f refl; phase-ok = rw (e, r .0, r .1) tt }
+  kept n (data-unused j x e f) = record { due-ok = rw f refl; phase-ok = rw e same }
+  kept n (data-denied x e f) = let r = settled x in record { due-ok = rw f refl; phase-ok = rw (e, r .0) tt }
 
 -- ---- the facts of slots that the promises need
 
@@ -172,7 +170,7 @@ told (skips v e) = record { due-is = told v .due-is; in-phase = told v .in-phase
 told (rests v) = told v
 told (gets {x = x} {l = l} {t = t} {payload = payload} v o n r) =
     let y = kept (x .balance .station) t payload (hasParam l) (hasConfig l) (ready l) (told v .in-phase) n r in
-    record { due-is = rw (last-asked v o, ← told v .due-is) (y .due-ok); in-phase = rw (last-asked v o, ← told v .due-is) (y .phase-ok) }
+    record { due-is = rw (last-asked v o, ← told v .due-is) (y .due-ok); in-phase = rw (last-asked v o) (y .phase-ok) }
 
 pub image-is : {limit : ℕ} {x : Slot} {l : List Note} → Lives limit x l → x .image ≡ imageOf l
 image-is (joins a user config m l) = refl

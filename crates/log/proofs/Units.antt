@@ -12,7 +12,7 @@ use lib.Dec.{eqb}
 use borrow.Author.Tests.{eqb-true, eqb-false, ne-eqb}
 use Rattle.parts.proofs.Laws.{by-test}
 use Rattle.payloads.specs.declared.request.Request.{Request}
-use Rattle.payloads.specs.declared.request.Request.the-variants.{Diagnosis, Parameters, Configuration, Data}
+use Rattle.payloads.specs.Request.{requestNumbered}
 use Rattle.station.specs.Record.{dueIs}
 use Rattle.peripheral.specs.declared.record.Peripheral.{Peripheral}
 use Rattle.peripheral.specs.Record.{blank, resetOf, stationIs, inputImage}
@@ -36,12 +36,9 @@ use Rattle.log.specs.Entries.{says, Entry, Frame, target, slotLog, frame
 use Rattle.log.specs.Promises.{frameIn}
 use Rattle.log.proofs.Lives.{Slot, slotOf, Lives, moves, wishes}
 
--- the request of a number, 0 being none; and the open request of a slot
-abbrev pub openKind : ℕ → Request
-openKind n = cond (eqb n 1) Diagnosis (cond (eqb n 2) Parameters (cond (eqb n 3) Configuration Data))
-
+-- the open request of a slot; kind 0 is none
 abbrev pub openAt : DpMasterState → ℕ → Option Request
-openAt st s = cond (eqb s (st .«open_slot»)) (cond (eqb (st .«open_kind») 0) none (some (openKind (st .«open_kind»)))) none
+openAt st s = cond (eqb s (st .«open_slot»)) (cond (eqb (st .«open_kind») 0) none (some (requestNumbered (st .«open_kind»)))) none
 
 abbrev pub slotIn : DpMasterState → List Peripheral → List ℕ → ℕ → Slot
 slotIn st ps pool s = slotOf (openAt st s) (getD ps s blank) (inputImage (getD ps s blank) pool)

@@ -179,20 +179,20 @@ has-config (x ∷ l) zero (suc p) q a b u =
 has-config (x ∷ l) (suc c) (suc p) q a b u = and-i (not (fall (x ∷ l))) _ (u 0 (omega arith)) (or-l (hasConfig l) (hasParam l && acknowledged Configuration (x ∷ l)) (has-config l c p (le-of-suc-le-suc q) a b (λ i q. u (suc i) (omega arith))))
 
 -- one reply is not both: a clean diagnosis answers a diagnosis request, "SAP not enabled" a data request
-not-both : (k : Option Request) (due : Bool) (t : Telegram) (payload : List ℕ) → T (cleans k t payload) → T (not (denies k due t))
-not-both none due t payload h = absurd h
-not-both (some Diagnosis) due t payload h = tt
-not-both (some Parameters) due t payload h = absurd h
-not-both (some Configuration) due t payload h = absurd h
-not-both (some Data) due t payload h = absurd h
+not-both : (k : Option Request) (t : Telegram) (payload : List ℕ) → T (cleans k t payload) → T (not (denies k t))
+not-both none t payload h = absurd h
+not-both (some Diagnosis) t payload h = tt
+not-both (some Parameters) t payload h = absurd h
+not-both (some Configuration) t payload h = absurd h
+not-both (some Data) t payload h = absurd h
 
 clean-enabled : (l : List Note) → T (clean l) → T (not (notEnabled l))
 clean-enabled [] h = tt
 clean-enabled (x ∷ l) h = of (contentOf x .reply) h
   where
-    of : (r : Option Incoming) → T (given false (λ (r : Incoming). cleans (lastAsked l) (r .telegram) (r .payload)) r) → T (not (given false (λ (r : Incoming). denies (lastAsked l) (dueOf l) (r .telegram)) r))
+    of : (r : Option Incoming) → T (given false (λ (r : Incoming). cleans (lastAsked l) (r .telegram) (r .payload)) r) → T (not (given false (λ (r : Incoming). denies (lastAsked l) (r .telegram)) r))
     of none h = tt
-    of (some r) h = not-both (lastAsked l) (dueOf l) (r .telegram) (r .payload) h
+    of (some r) h = not-both (lastAsked l) (r .telegram) (r .payload) h
 
 is-ready : (l : List Note) (d c p : ℕ) → d < c → c < p → T (clean (drop d l)) → T (acknowledged Configuration (drop c l)) → T (acknowledged Parameters (drop p l)) → Upright p l →
     ((i : ℕ) → i < d → T (not (notEnabled (drop i l)))) → T (ready l)
@@ -221,7 +221,7 @@ later x l h q = record { wish = suc (q .wish); made = q .made; since = more }
     more zero z = h
     more (suc i) z = q .since i (le-of-suc-le-suc z)
 
-here : (x : Note) (l : List Note) → T (makesDue (lastAsked l) (dueOf l) x) → T (not (endsDue x)) → Due (x ∷ l)
+here : (x : Note) (l : List Note) → T (makesDue (lastAsked l) x) → T (not (endsDue x)) → Due (x ∷ l)
 here x l m h = record { wish = 0; made = m; since = only }
   where
     only : (i : ℕ) → i ≤ 0 → T (not (dueEnded (drop i (x ∷ l))))
@@ -230,21 +230,21 @@ here x l m h = record { wish = 0; made = m; since = only }
 
 due-at : (l : List Note) → T (dueOf l) → Due l
 due-at [] h = absurd h
-due-at (x ∷ l) h = go (due-at l) (or-e (makesDue (lastAsked l) (dueOf l) x) (dueOf l) (and-r (not (endsDue x)) _ h))
+due-at (x ∷ l) h = go (due-at l) (or-e (makesDue (lastAsked l) x) (dueOf l) (and-r (not (endsDue x)) _ h))
   where
     ok : T (not (endsDue x))
     ok = and-l (not (endsDue x)) _ h
 
-    go : (T (dueOf l) → Due l) → T (makesDue (lastAsked l) (dueOf l) x) ⊎ T (dueOf l) → Due (x ∷ l)
+    go : (T (dueOf l) → Due l) → T (makesDue (lastAsked l) x) ⊎ T (dueOf l) → Due (x ∷ l)
     go f (inl a) = here x l a ok
     go f (inr a) = later x l ok (f a)
 
 at-due : (l : List Note) (w : ℕ) → T (dueMade (drop w l)) → ((i : ℕ) → i ≤ w → T (not (dueEnded (drop i l)))) → T (dueOf l)
 at-due [] zero m s = absurd m
 at-due [] (suc w) m s = absurd m
-at-due (x ∷ l) zero m s = and-i (not (endsDue x)) _ (s 0 (omega arith)) (or-l (makesDue (lastAsked l) (dueOf l) x) (dueOf l) m)
+at-due (x ∷ l) zero m s = and-i (not (endsDue x)) _ (s 0 (omega arith)) (or-l (makesDue (lastAsked l) x) (dueOf l) m)
 at-due (x ∷ l) (suc w) m s =
-    and-i (not (endsDue x)) _ (s 0 (omega arith)) (or-r (makesDue (lastAsked l) (dueOf l) x) (dueOf l) (at-due l w m (λ i q. s (suc i) (omega arith))))
+    and-i (not (endsDue x)) _ (s 0 (omega arith)) (or-r (makesDue (lastAsked l) x) (dueOf l) (at-due l w m (λ i q. s (suc i) (omega arith))))
 
 pub due-wording : (l : List Note) → T (dueOf l) ↔ Due l
 due-wording l = (due-at l, λ q. at-due l (q .wish) (q .made) (q .since))

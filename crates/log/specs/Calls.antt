@@ -29,7 +29,7 @@ use Rattle.master.specs.Unit.{stateIs}
 use Rattle.master.specs.Pools.{Pools, lend, afterLent, lendAll, backAll}
 use Rattle.master.specs.Add.{userOf, configOf, lengthsOf, newcomer, unitAdded, poolsAfter, refusalOf}
 use Rattle.master.specs.Turn.{Swept, stepAt, sweptBy, unitTurned, turnPayload, turnAnswer}
-use Rattle.master.specs.Receive.{openBalance, replyAt, replyAnswer, unitReplied}
+use Rattle.master.specs.Receive.{openBalance, openRequest, replyAt, replyAnswer, unitReplied}
 use Rattle.master.specs.Handle.{resetDone, wishDone}
 use Rattle.access.specs.Lookup.{foundIn, outputNumber, writeRefusal}
 
@@ -115,7 +115,7 @@ replyStep ok n is t payload ni nd w =
                   setup = w .pools .setup;
                   inputs = afterLent ok ni (inputsOf (is .event) (carried t payload) (openBalance (w .unit))) (w .pools .inputs);
                   outputs = w .pools .outputs;
-                  diags = afterLent ok nd (diagsOf (diagnosisTaken t (openBalance (w .unit)) (length payload)) (openBalance (w .unit)) payload) (w .pools .diags);
+                  diags = afterLent ok nd (diagsOf (diagnosisTaken (openRequest (w .unit)) t (openBalance (w .unit)) (length payload)) (openBalance (w .unit)) payload) (w .pools .diags);
                 };
           };
       answer = replied (cond ok (replyAnswer (w .unit) is) (refusedReply n));

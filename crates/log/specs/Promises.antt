@@ -10,7 +10,9 @@ use mathlib.Core.Option.{some}
 use lib.Dec.{T, eqb, ltb}
 use Rattle.fdl.specs.declared.parameters.Parameters.{Parameters}
 use Rattle.fdl.specs.declared.telegram.Telegram.{Telegram}
+use Rattle.station.specs.declared.state.PeripheralEvent.{PeripheralEvent}
 use Rattle.station.specs.declared.state.PeripheralEvent.the-variants.{NoEvent, Offline}
+use Rattle.station.specs.Heard.{isExchanged}
 use Rattle.peripheral.specs.Record.{inputImage}
 use Rattle.peripheral_set.specs.declared.PeripheralHandle.{PeripheralHandle}
 use Rattle.peripheral_set.specs.Marks.{slots}
@@ -24,9 +26,9 @@ use Rattle.access.specs.Lookup.{inputNumber}
 use Rattle.valid.specs.Valid.{Valid, Apart, balance}
 use Rattle.master.specs.Pools.{Pools, lend}
 use Rattle.log.specs.Calls.{Call, add, turn, reply, turned, World, Outcome, accepted, refusal, step}
-use Rattle.log.specs.Notes.{turnOf, slotGiven, slotAsked, isOffline, bitSet, reportedOffline}
-use Rattle.log.specs.Entries.{Entry, slotLog, Frame, frameOf, occupiedIn, FirstEmpty, Moved, reached}
-use Rattle.log.specs.Words.{imageOf, Due, Ready, asksData}
+use Rattle.log.specs.Notes.{turnOf, eventOf, slotGiven, slotAsked, isOffline, bitSet, reportedOffline}
+use Rattle.log.specs.Entries.{Entry, target, slotLog, Frame, frameOf, occupiedIn, FirstEmpty, Moved, reached}
+use Rattle.log.specs.Words.{lastAsked, judged, bringsImage, imageOf, Due, Ready, asksData}
 use Rattle.log.specs.Run.{runBy, run, acceptedOf}
 use Rattle.log.specs.Made.{Allowed, Handed, Made}
 
@@ -83,6 +85,19 @@ AskedTold = AskedBy step
 abbrev pub ReachedTold : Type 0
 ReachedTold = (u : Parameters) (pools : Pools) (cs : List Call) (time : ℕ) (high : Bool) (ns nq : ℕ) (buf : List ℕ) (s : ℕ) → let r = run u pools cs in
     let a = turnOf (step (r .world) (turn time high ns nq buf) .answer) in slotAsked (a .transmission) ≡ some s → T (reached (r .log) a s)
+
+-- ---- DATA: an accepted reply is reported DataExchanged exactly when it answers a data request and is data with status 0, 8 or 10 as long as the slot's input image,
+-- or a short confirmation where that image has 0 bytes: whatever is due, no weight is thrown away
+
+-- e is what the reply to the slot asked last reports; l is the log before it
+pub record Exchanged (l : List Entry) (t : Telegram) (payload : List ℕ) (e : PeripheralEvent) : Type 0 where
+  pub slot : ℕ
+  pub newest : target l ≡ some slot
+  pub when : isExchanged e ≡ (judged (lastAsked (slotLog slot l)) && bringsImage (imageOf (slotLog slot l)) t payload)
+
+abbrev pub DataTold : Type 0
+DataTold = (u : Parameters) (pools : Pools) (cs : List Call) (address : ℕ) (t : Telegram) (payload : List ℕ) (ni nd : ℕ) → let r = run u pools cs in
+    let x = step (r .world) (reply address t payload ni nd) .answer in accepted x ≡ true → Exchanged (r .log) t payload (eventOf x)
 
 -- ---- MASK: at a turn, bit s of the Offline mask is set exactly when the turn reached slot s and its count was above the limit; the event is that of the lowest bit
 

@@ -251,14 +251,14 @@ wishedWhileOpen =
     ∷ (turnTo 38, dataTo 0 7 3 (0 ∷ 0 ∷ []))
     -- a wish while the data request is open
     ∷ (wish (record { slot = 0; address = 7 }), (0 ∷ []))
-    -- a diagnosis is due when the reply arrives, and data is not taken as one: no change, no event, nothing stored
-    ∷ (replyFrom 7 (Data Absent Absent 8) (11 ∷ 22 ∷ []), (0 ∷ 0 ∷ 0 ∷ 255 ∷ []))
+    -- data was asked, whatever is due: status 0 and as long as the input image: stored, DataExchange, DataExchanged
+    ∷ (replyFrom 7 (Data Absent Absent 0) (11 ∷ 22 ∷ []), (0 ∷ 0 ∷ 5 ∷ 0 ∷ []))
     -- the second: count 0 again, diagnosis
     ∷ (turnTo 39, diagnosisTo 1 8 2)
     -- skipped
     ∷ (turnTo 40, (0 ∷ 1 ∷ 0 ∷ 0 ∷ 255 ∷ []))
-    -- diagnosis due; the bit was not cycled, and count 1 is not above the limit
-    ∷ (turnTo 41, diagnosisTo 0 7 3)
+    -- the wish waited for this visit: diagnosis; the reply to data cycled the bit
+    ∷ (turnTo 41, diagnosisTo 0 7 2)
     -- taken: Diagnostics, due cleared
     ∷ (diagnosisFrom 7 0x00 0x0C, (0 ∷ 0 ∷ 6 ∷ 0 ∷ []))
     -- the second: diagnosis
@@ -266,17 +266,17 @@ wishedWhileOpen =
     -- skipped
     ∷ (turnTo 43, (0 ∷ 1 ∷ 0 ∷ 0 ∷ 255 ∷ []))
     -- none due: data; taking cycled the bit
-    ∷ (turnTo 44, dataTo 0 7 2 (0 ∷ 0 ∷ []))
+    ∷ (turnTo 44, dataTo 0 7 3 (0 ∷ 0 ∷ []))
     -- another wish while the data request is open
     ∷ (wish (record { slot = 0; address = 7 }), (0 ∷ []))
-    -- a diagnosis is due when the reply arrives, and this one is taken, though data was asked for: Diagnostics
-    ∷ (diagnosisFrom 7 0x00 0x0C, (0 ∷ 0 ∷ 6 ∷ 0 ∷ []))
+    -- a diagnosis in form, but data was asked: not as long as the input image, so no event and nothing held; the bit is cycled, the wish stays due
+    ∷ (diagnosisFrom 7 0x00 0x0C, (0 ∷ 0 ∷ 0 ∷ 255 ∷ []))
     -- the second: diagnosis
     ∷ (turnTo 45, diagnosisTo 1 8 2)
     -- skipped
     ∷ (turnTo 46, (0 ∷ 1 ∷ 0 ∷ 0 ∷ 255 ∷ []))
-    -- data
-    ∷ (turnTo 47, dataTo 0 7 3 (0 ∷ 0 ∷ []))
-    -- status 0 and as long as the input image: stored, DataExchange, DataExchanged
-    ∷ (replyFrom 7 (Data Absent Absent 0) (33 ∷ 44 ∷ []), (0 ∷ 0 ∷ 5 ∷ 0 ∷ []))
+    -- diagnosis due
+    ∷ (turnTo 47, diagnosisTo 0 7 2)
+    -- taken, as the answer to a diagnosis request: Diagnostics
+    ∷ (diagnosisFrom 7 0x00 0x0C, (0 ∷ 0 ∷ 6 ∷ 0 ∷ []))
     ∷ []

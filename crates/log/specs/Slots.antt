@@ -3,9 +3,9 @@
 use mathlib.Core.Path.{_≡_}
 use mathlib.Core.Logic.{_↔_}
 use Prim.Native.Nat.{ℕ, _<_}
-use mathlib.Core.Bool.{Bool, true, false, not, cond}
+use mathlib.Core.Bool.{Bool, false, not, _&&_, _||_, cond}
 use mathlib.Core.List.{List, [], _∷_}
-use mathlib.Core.Option.{Option, none, some}
+use mathlib.Core.Option.{Option, some}
 use lib.Dec.{T}
 use lib.ListN.{length, drop}
 use Rattle.fdl.specs.Bits.{cycled, bitOf}
@@ -14,10 +14,9 @@ use Rattle.fdl.specs.declared.telegram.FrameCountBit.{FrameCountBit}
 use Rattle.fdl.specs.declared.telegram.FrameCountBit.the-variants.{First, Inactive}
 use Rattle.fdl.specs.declared.telegram.Telegram.{Telegram}
 use Rattle.payloads.specs.declared.request.Request.{Request}
-use Rattle.payloads.specs.declared.request.Request.the-variants.{Diagnosis, Parameters as ParameterRequest, Configuration, Data}
+use Rattle.payloads.specs.declared.request.Request.the-variants.{Diagnosis, Parameters as ParameterRequest, Configuration}
 use Rattle.payloads.specs.Diagnosis.{taken}
 use Rattle.station.specs.Record.{isRunning}
-use Rattle.fdl.specs.Status.{isShort}
 use Rattle.station.specs.Heard.{isExchanged}
 use Rattle.answers.specs.declared.turn.Transmission.{Transmission}
 use Rattle.answers.specs.declared.turn.Transmission.the-variants.{Nothing, Control, Request as Asks}
@@ -26,7 +25,7 @@ use Rattle.master.specs.Pools.{Pools}
 use Rattle.log.specs.Calls.{Call, turn, step}
 use Rattle.log.specs.Notes.{ofReply, fresh, turnOf, slotAsked, Note}
 use Rattle.log.specs.Entries.{slotLog, occupiedIn}
-use Rattle.log.specs.Words.{lastAsked, dueOf, fall, notEnabled}
+use Rattle.log.specs.Words.{isKind, lastAsked, judged, confirms, fall, notEnabled}
 use Rattle.log.specs.Run.{run}
 
 -- ---- in DataExchange
@@ -50,17 +49,13 @@ RunningTold = (u : Parameters) (pools : Pools) (cs : List Call) (s : ℕ) → T 
 -- ---- the frame bit
 
 -- a reply that cycles it: a taken diagnosis, a short confirmation of parameters or configuration, any reply judged as exchange data
-abbrev pub cycles : Option Request → Bool → Telegram → List ℕ → Bool
-cycles none due t payload = false
-cycles (some Diagnosis) due t payload = taken t (length payload)
-cycles (some ParameterRequest) due t payload = isShort t
-cycles (some Configuration) due t payload = isShort t
-cycles (some Data) due t payload = cond due (taken t (length payload)) true
+abbrev pub cycles : Option Request → Telegram → List ℕ → Bool
+cycles k t payload = judged k || confirms ParameterRequest k t || confirms Configuration k t || (isKind Diagnosis k && taken t (length payload))
 
 -- First since adding or reset, then cycled by each such reply
 abbrev pub frameBit : List Note → FrameCountBit
 frameBit [] = First
-frameBit (x ∷ l) = cond (fresh x) First (ofReply (frameBit l) (λ t payload e. cond (cycles (lastAsked l) (dueOf l) t payload) (cycled (frameBit l)) (frameBit l)) x)
+frameBit (x ∷ l) = cond (fresh x) First (ofReply (frameBit l) (λ t payload e. cond (cycles (lastAsked l) t payload) (cycled (frameBit l)) (frameBit l)) x)
 
 abbrev pub BitTold : Type 0
 BitTold = (u : Parameters) (pools : Pools) (cs : List Call) (s : ℕ) → T (occupiedIn (run u pools cs .log) s)

@@ -41,18 +41,23 @@ spotless t payload =
     && not (flag 0x0100 (diagnosisOf payload .flags))
     && not (flag 0x0002 (diagnosisOf payload .flags))
 
--- ---- of a reply; k is the request that was sent last, due: a diagnosis was due on arrival
+-- ---- of a reply; k is the request that was sent last
 
--- judged as exchange data: a reply to a data request with no diagnosis due on arrival
-abbrev pub judged : Option Request → Bool → Bool
-judged k due = isKind Data k && not due
+-- judged as exchange data: a reply that answers a data request
+abbrev pub judged : Option Request → Bool
+judged k = isKind Data k
 
 -- status 3 and status 10 count only in replies judged as exchange data
-abbrev pub denies : Option Request → Bool → Telegram → Bool
-denies k due t = judged k due && hasStatus 3 t
+abbrev pub denies : Option Request → Telegram → Bool
+denies k t = judged k && hasStatus 3 t
 
-abbrev pub warns : Option Request → Bool → Telegram → Bool
-warns k due t = judged k due && hasStatus 10 t
+abbrev pub warns : Option Request → Telegram → Bool
+warns k t = judged k && hasStatus 10 t
+
+-- the reply is an input image as long as this one: data with status 0, 8 or 10 and of that length, or a short confirmation where the image has 0 bytes
+abbrev pub bringsImage : List ℕ → Telegram → List ℕ → Bool
+bringsImage image t payload =
+    (isShort t && eqb (length image) 0) || ((hasStatus 0 t || (hasStatus 8 t || hasStatus 10 t)) && eqb (length payload) (length image))
 
 -- a short confirmation answering that request
 abbrev pub confirms : Request → Option Request → Telegram → Bool
@@ -65,8 +70,8 @@ cleans k t payload = isKind Diagnosis k && spotless t payload
 -- ---- diagnosis due
 
 -- a caller's wish, or a status 10
-abbrev pub makesDue : Option Request → Bool → Note → Bool
-makesDue k due x = isNote wished x || ofReply false (λ t payload e. warns k due t) x
+abbrev pub makesDue : Option Request → Note → Bool
+makesDue k x = isNote wished x || ofReply false (λ t payload e. warns k t) x
 
 -- added, address reset, or a Diagnostics event
 abbrev pub endsDue : Note → Bool
@@ -75,7 +80,7 @@ endsDue x = fresh x || ofReply false (λ t payload e. isDiagnosed e) x
 -- since adding or reset, a caller's wish or a status 10, not followed by a Diagnostics event
 abbrev pub dueOf : List Note → Bool
 dueOf [] = false
-dueOf (x ∷ l) = not (endsDue x) && (makesDue (lastAsked l) (dueOf l) x || dueOf l)
+dueOf (x ∷ l) = not (endsDue x) && (makesDue (lastAsked l) x || dueOf l)
 
 -- ---- the input image
 
@@ -104,12 +109,12 @@ clean (x ∷ l) = ofReply false (λ t payload e. cleans (lastAsked l) t payload)
 -- "SAP not enabled": status 3 in a reply judged as exchange data
 abbrev pub notEnabled : List Note → Bool
 notEnabled [] = false
-notEnabled (x ∷ l) = ofReply false (λ t payload e. denies (lastAsked l) (dueOf l) t) x
+notEnabled (x ∷ l) = ofReply false (λ t payload e. denies (lastAsked l) t) x
 
 -- it made a diagnosis due
 abbrev pub dueMade : List Note → Bool
 dueMade [] = false
-dueMade (x ∷ l) = makesDue (lastAsked l) (dueOf l) x
+dueMade (x ∷ l) = makesDue (lastAsked l) x
 
 -- since then none is due of what came before
 abbrev pub dueEnded : List Note → Bool

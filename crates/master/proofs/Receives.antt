@@ -18,7 +18,7 @@ use Rattle.answers.specs.ReplyAnswer.{judgedBy, judgedOf}
 use Rattle.master.specs.declared.unit.DpMaster.{DpMaster}
 use Rattle.master.specs.declared.receive.Answered.{Answered}
 use Rattle.master.specs.Unit.{stateIs, balancesAre}
-use Rattle.master.specs.Receive.{openBalance, replyAt, Replies, Received}
+use Rattle.master.specs.Receive.{openBalance, openRequest, replyAt, Replies, Received}
 
 -- the unit with what was judged stored
 abbrev pub storedIn : DpMaster → Judged → DpMaster
@@ -34,8 +34,8 @@ module _ (t : Telegram) (m : DpMaster) (payload inputs diags outInputs outDiags 
       (λ e. record {
         after = rw e (rw e at em);
         answer = rw e (rw e at ea);
-        inputPool = rw e (kept-inputs t (openBalance m) payload inputs diags outInputs outDiags (rw e at k));
-        diagPool = rw e (kept-diags t (openBalance m) payload inputs diags outInputs outDiags (rw e at k));
+        inputPool = rw e (kept-inputs t (openBalance m) payload inputs diags outInputs outDiags (openRequest m) (rw e at k));
+        diagPool = rw e (kept-diags t (openBalance m) payload inputs diags outInputs outDiags (openRequest m) (rw e at k));
       })
       (λ e. record {
         after = rw e ((rw e at em) ∙ ap (λ (ps : List Peripheral). balancesAre ps m) (set-getD (m .peripherals) (indexOf (m .state .«open_slot»)) blank));

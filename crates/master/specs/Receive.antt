@@ -8,6 +8,8 @@ use lib.ListN.{length, set}
 use lib.Dec.{eqb}
 use Rattle.fdl.specs.Status.{carried}
 use Rattle.fdl.specs.declared.telegram.Telegram.{Telegram}
+use Rattle.payloads.specs.declared.request.Request.{Request}
+use Rattle.payloads.specs.Request.{requestNumbered}
 use Rattle.peripheral.specs.declared.record.Peripheral.{Peripheral}
 use Rattle.peripheral.specs.declared.response.Reply.{Reply}
 use Rattle.peripheral.specs.Response.{replyOf, diagnosisTaken, inputsOf, diagsOf}
@@ -24,9 +26,13 @@ use Rattle.master.specs.Unit.{stateIs, balancesAre, balanceAt}
 abbrev pub openBalance : DpMaster → Peripheral
 openBalance m = balanceAt (m .peripherals) (m .state .«open_slot»)
 
+-- the request that is open, by its kept number
+abbrev pub openRequest : DpMaster → Request
+openRequest m = requestNumbered (m .state .«open_kind»)
+
 -- its reply
 unfoldable pub replyAt : Telegram → DpMaster → List ℕ → List ℕ → List ℕ → Reply
-replyAt t m payload inputs diags = replyOf t (openBalance m) payload (length inputs) (length diags)
+replyAt t m payload inputs diags = replyOf (openRequest m) t (openBalance m) payload (length inputs) (length diags)
 
 -- the next occupied slot after the one that was asked
 abbrev pub nextSlot : DpMaster → ℕ
@@ -45,7 +51,7 @@ pub record Replies (n : ℕ) (is : Reply) (t : Telegram) (m : DpMaster) (payload
   pub after : r .master ≡ cond (eqb n 0) (unitReplied m is) m
   pub answer : r .answer ≡ cond (eqb n 0) (replyAnswer m is) (refusedReply n)
   pub inputPool : outInputs ≡ cond (eqb n 0) (inputsOf (is .event) (carried t payload) (openBalance m) inputs) inputs
-  pub diagPool : outDiags ≡ cond (eqb n 0) (diagsOf (diagnosisTaken t (openBalance m) (length payload)) (openBalance m) payload diags) diags
+  pub diagPool : outDiags ≡ cond (eqb n 0) (diagsOf (diagnosisTaken (openRequest m) t (openBalance m) (length payload)) (openBalance m) payload diags) diags
 
 abbrev pub Received : DpMaster → ℕ → Telegram → List ℕ → List ℕ → List ℕ → List ℕ → List ℕ → Answered → Type 0
 Received m address t payload inputs diags outInputs outDiags r =

@@ -1,7 +1,8 @@
 -- The four requests, number and header, and the header of the global control.
 -- From 01, "One visit and one reply", the table of requests, and "One turn" on global control; the numbers are ours, 0 stands for none.
 use Prim.Native.Nat.{ℕ}
-use mathlib.Core.Bool.{Bool, true, false}
+use mathlib.Core.Bool.{Bool, true, false, cond}
+use lib.Dec.{eqb}
 use Rattle.fdl.specs.declared.consts.Sap.{Sap}
 use Rattle.fdl.specs.declared.consts.Sap.the-variants.{Absent, At}
 use Rattle.fdl.specs.declared.telegram.FrameCountBit.{FrameCountBit}
@@ -17,6 +18,10 @@ kindNumber Diagnosis = 1
 kindNumber Parameters = 2
 kindNumber Configuration = 3
 kindNumber Data = 4
+
+-- the request that a kept number stands for; a number that is none of the four counts as a diagnosis
+abbrev pub requestNumbered : ℕ → Request
+requestNumbered n = cond (eqb n 2) Parameters (cond (eqb n 3) Configuration (cond (eqb n 4) Data Diagnosis))
 
 abbrev pub isDiagnosis : Request → Bool
 isDiagnosis Diagnosis = true

@@ -1,6 +1,6 @@
 // The four requests, and the header of each.
 ghost use mathlib.Core.Path.{_≡_};
-ghost use Rattle.payloads.specs.Request.{kindNumber, headerOf, controlHeader};
+ghost use Rattle.payloads.specs.Request.{kindNumber, requestNumbered, isData, headerOf, controlHeader};
 use fdl::consts::Service;
 use fdl::telegram::DataTelegramHeader;
 use fdl::telegram::FrameCountBit;
@@ -44,6 +44,30 @@ impl Request {
             Request::Parameters => 2,
             Request::Configuration => 3,
             Request::Data => 4,
+        }
+    }
+
+    // The request that a kept number stands for; a number that is none of the four counts as a diagnosis, so that no weight comes of it.
+    pub fn of(n: u8) -> Request
+        ensures { λ r. ⌜ r ≡ requestNumbered n ⌝ }
+    {
+        match n {
+            2 => Request::Parameters,
+            3 => Request::Configuration,
+            4 => Request::Data,
+            _ => Request::Diagnosis,
+        }
+    }
+
+    // Whether data is asked for.
+    pub fn is_data(self) -> bool
+        ensures { λ r. ⌜ r ≡ isData self ⌝ }
+    {
+        match self {
+            Request::Diagnosis => false,
+            Request::Parameters => false,
+            Request::Configuration => false,
+            Request::Data => true,
         }
     }
 

@@ -11,22 +11,20 @@ use lib.Dec.{leb, eqb}
 use borrow.Author.Tests.{eqb-true, leb-true, leb-false, le-leb, lt-leb}
 use Rattle.parts.specs.Parts.{inside, part, roomFor}
 use Rattle.parts.proofs.Laws.{by-test, and-left, and-right, room-own, part-put, part-put-other, length-put, put-kept, inside-leb}
-use Rattle.fdl.specs.Status.{isShort, carried}
+use Rattle.fdl.specs.Status.{carried}
 use Rattle.fdl.specs.declared.telegram.Telegram.{Telegram}
 use Rattle.fdl.specs.declared.telegram.Telegram.the-variants.{ShortConfirmation, Data as DataReply, Token, Request as RequestTelegram}
 use Rattle.payloads.specs.Diagnosis.{taken, extended, diagnosisOf, flag}
 use Rattle.payloads.specs.declared.request.Request.{Request}
 use Rattle.payloads.specs.declared.request.Request.the-variants.{Diagnosis, Parameters, Configuration, Data}
 use Rattle.station.specs.declared.state.PeripheralEvent.{PeripheralEvent}
-use Rattle.station.specs.declared.state.PeripheralState.the-variants.{WaitForConfig, ValidateConfig}
-use Rattle.station.specs.Visit.{requestOf}
+use Rattle.station.specs.Visit.{judgedAs}
 use Rattle.station.specs.Heard.{isExchanged}
-use Rattle.station.proofs.Heards.{acknowledgement-keeps}
 use Rattle.station.proofs.Rows.{heardFor}
 use Rattle.peripheral.specs.declared.record.Peripheral.{Peripheral}
 use Rattle.peripheral.specs.Record.{inputImage}
 use Rattle.peripheral.specs.Response.{partFits, diagnosisAnswer, stationDiagnosed, fitsImage, answerTo, replyOf, withImage, withPart, inputsOf, diagsOf}
-use Rattle.peripheral.proofs.Pools.{diagnosis-event, fits}
+use Rattle.peripheral.proofs.Pools.{exchanged-fits}
 
 -- ---- what a balance makes of a reply is what its station makes of it
 
@@ -71,16 +69,9 @@ image-of Token p payload inputs e = absurd (false≢true e)
 image-of RequestTelegram p payload inputs e = absurd (false≢true e)
 
 module _ (t : Telegram) (p : Peripheral) (payload inputs diags : List ℕ) where
-  exchanged-by : (k : Request) → isExchanged (answerTo k t p payload (length inputs) (length diags) .event) ≡ true → fitsImage t p (length payload) (length inputs) ≡ true
-  unfolding answerTo
-  exchanged-by Diagnosis x = absurd (false≢true (sym (diagnosis-event t p payload inputs diags) ∙ x))
-  exchanged-by Parameters x = absurd (false≢true (sym (acknowledgement-keeps (isShort t) WaitForConfig (p .station)) ∙ x))
-  exchanged-by Configuration x = absurd (false≢true (sym (acknowledgement-keeps (isShort t) ValidateConfig (p .station)) ∙ x))
-  exchanged-by Data x = fits t p payload inputs diags x
-
-  pub exchanged-image : isExchanged (replyOf t p payload (length inputs) (length diags) .event) ≡ true
-      → inputImage p (inputsOf (replyOf t p payload (length inputs) (length diags) .event) (carried t payload) p inputs) ≡ carried t payload
-  exchanged-image x = rw x (image-of t p payload inputs (exchanged-by (requestOf (p .station)) x))
+  pub exchanged-image : (asked : Request) → isExchanged (replyOf asked t p payload (length inputs) (length diags) .event) ≡ true
+      → inputImage p (inputsOf (replyOf asked t p payload (length inputs) (length diags) .event) (carried t payload) p inputs) ≡ carried t payload
+  exchanged-image asked x = rw x (image-of t p payload inputs (exchanged-fits t p payload inputs diags (judgedAs asked (p .station)) x))
 
 -- ---- the pool for diagnosis
 

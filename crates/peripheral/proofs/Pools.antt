@@ -9,19 +9,19 @@ use lib.ListN.{length, take-append-drop, drop-of-length-le}
 use lib.Dec.{eqb}
 use borrow.Author.Tests.{eqb-true}
 use Rattle.parts.specs.Parts.{inside, part, splice, roomFor, putIn}
-use Rattle.parts.proofs.Laws.{by-test, and-left, inside-yes, span, rest, put-done, put-kept}
+use Rattle.parts.proofs.Laws.{by-test, and-left, and-right, inside-yes, span, rest, put-done, put-kept}
 use Rattle.fdl.specs.Status.{isShort, carried}
 use Rattle.fdl.specs.declared.telegram.Telegram.{Telegram}
 use Rattle.fdl.specs.declared.telegram.Telegram.the-variants.{ShortConfirmation, Data as DataReply, Token, Request as RequestTelegram}
 use Rattle.payloads.specs.Diagnosis.{taken}
-use Rattle.payloads.specs.Request.{isDiagnosis}
+use Rattle.payloads.specs.Request.{isDiagnosis, isData}
 use Rattle.payloads.specs.declared.request.Request.{Request}
 use Rattle.payloads.specs.declared.request.Request.the-variants.{Diagnosis, Parameters, Configuration, Data}
 use Rattle.station.specs.declared.state.PeripheralState.the-variants.{WaitForConfig, ValidateConfig}
 use Rattle.station.specs.State.{stateOf}
-use Rattle.station.specs.Visit.{requestOf}
+use Rattle.station.specs.Visit.{judgedAs}
 use Rattle.station.specs.Heard.{dataHeard, isExchanged}
-use Rattle.station.proofs.Heards.{diagnosis-keeps, acknowledgement-keeps, data-fits}
+use Rattle.station.proofs.Heards.{carriesData, diagnosis-keeps, acknowledgement-keeps, data-when}
 use Rattle.peripheral.specs.declared.record.Peripheral.{Peripheral}
 use Rattle.peripheral.specs.Response.{payloadPart, stationDiagnosed, fitsImage, diagnosisAnswer, diagnosisKeeps, answerTo, keepsOf, replyOf, withImage, withPart, Kept, diagnosisTaken, inputsOf, diagsOf}
 
@@ -57,14 +57,18 @@ came RequestTelegram p payload inputs e = absurd (false≢true e)
 -- ---- the pools after the reply
 
 module _ (t : Telegram) (p : Peripheral) (payload inputs diags : List ℕ) where
-  -- a taken diagnosis reports no DataExchanged, and one that is not taken neither
-  pub diagnosis-event : isExchanged (answerTo Diagnosis t p payload (length inputs) (length diags) .event) ≡ false
+  -- only the answer to a data request reports DataExchanged, and exactly where it is data and the input image
+  pub exchanged-when : (k : Request) → isExchanged (answerTo k t p payload (length inputs) (length diags) .event) ≡ (isData k && (carriesData t && fitsImage t p (length payload) (length inputs)))
   unfolding answerTo diagnosisAnswer
-  diagnosis-event = by-test (taken t (length payload)) (λ e. rw e (diagnosis-keeps (stateOf (p .station .state)) (stationDiagnosed p payload (length diags)))) (λ e. rw e refl)
+  exchanged-when Diagnosis = by-test (taken t (length payload)) (λ e. rw e (diagnosis-keeps (stateOf (p .station .state)) (stationDiagnosed p payload (length diags)))) (λ e. rw e refl)
+  exchanged-when Parameters = acknowledgement-keeps (isShort t) WaitForConfig (p .station)
+  exchanged-when Configuration = acknowledgement-keeps (isShort t) ValidateConfig (p .station)
+  exchanged-when Data = data-when t (fitsImage t p (length payload) (length inputs)) (p .station)
 
-  pub fits : isExchanged (answerTo Data t p payload (length inputs) (length diags) .event) ≡ true → fitsImage t p (length payload) (length inputs) ≡ true
-  unfolding answerTo
-  fits x = data-fits t (fitsImage t p (length payload) (length inputs)) (p .station) x
+  pub exchanged-fits : (k : Request) → isExchanged (answerTo k t p payload (length inputs) (length diags) .event) ≡ true → fitsImage t p (length payload) (length inputs) ≡ true
+  exchanged-fits k x =
+      let fits = fitsImage t p (length payload) (length inputs) in
+      and-right (carriesData t) fits (and-right (isData k) (carriesData t && fits) (sym (exchanged-when k) ∙ x))
 
   module _ (outInputs outDiags : List ℕ) where
     abbrev Stands : Request → Type 0
@@ -73,12 +77,12 @@ module _ (t : Telegram) (p : Peripheral) (payload inputs diags : List ℕ) where
     input-pool : (k : Request) → Stands k → outInputs ≡ inputsOf (answerTo k t p payload (length inputs) (length diags) .event) (carried t payload) p inputs
     unfolding keepsOf answerTo diagnosisKeeps
     input-pool Diagnosis s =
-        rw diagnosis-event (by-test (taken t (length payload) && payloadPart p payload (length diags) .fits) (λ e. rw e at (s .inputPool)) (λ e. rw e at (s .inputPool)))
+        rw (exchanged-when Diagnosis) (by-test (taken t (length payload) && payloadPart p payload (length diags) .fits) (λ e. rw e at (s .inputPool)) (λ e. rw e at (s .inputPool)))
     input-pool Parameters s = rw (acknowledgement-keeps (isShort t) WaitForConfig (p .station)) (s .inputPool)
     input-pool Configuration s = rw (acknowledgement-keeps (isShort t) ValidateConfig (p .station)) (s .inputPool)
     input-pool Data s =
         by-test (isExchanged (dataHeard t (fitsImage t p (length payload) (length inputs)) (p .station) .event))
-        (λ e. rw e ((rw e at (s .inputPool)) ∙ ap (λ (l : List ℕ). withImage p l inputs) (came t p payload (length inputs) (fits e))))
+        (λ e. rw e ((rw e at (s .inputPool)) ∙ ap (λ (l : List ℕ). withImage p l inputs) (came t p payload (length inputs) (exchanged-fits Data e))))
         (λ e. rw e (rw e at (s .inputPool)))
 
     diag-pool : (k : Request) → Stands k → outDiags ≡ diagsOf (isDiagnosis k && taken t (length payload)) p payload diags
@@ -90,10 +94,10 @@ module _ (t : Telegram) (p : Peripheral) (payload inputs diags : List ℕ) where
     diag-pool Data s =
         by-test (isExchanged (dataHeard t (fitsImage t p (length payload) (length inputs)) (p .station) .event)) (λ e. rw e at (s .diagPool)) (λ e. rw e at (s .diagPool))
 
-    pub kept-inputs : Kept (replyOf t p payload (length inputs) (length diags) .keeps) p payload inputs diags outInputs outDiags
-        → outInputs ≡ inputsOf (replyOf t p payload (length inputs) (length diags) .event) (carried t payload) p inputs
-    kept-inputs s = input-pool (requestOf (p .station)) s
+    pub kept-inputs : (asked : Request) → Kept (replyOf asked t p payload (length inputs) (length diags) .keeps) p payload inputs diags outInputs outDiags
+        → outInputs ≡ inputsOf (replyOf asked t p payload (length inputs) (length diags) .event) (carried t payload) p inputs
+    kept-inputs asked s = input-pool (judgedAs asked (p .station)) s
 
-    pub kept-diags : Kept (replyOf t p payload (length inputs) (length diags) .keeps) p payload inputs diags outInputs outDiags
-        → outDiags ≡ diagsOf (diagnosisTaken t p (length payload)) p payload diags
-    kept-diags s = diag-pool (requestOf (p .station)) s
+    pub kept-diags : (asked : Request) → Kept (replyOf asked t p payload (length inputs) (length diags) .keeps) p payload inputs diags outInputs outDiags
+        → outDiags ≡ diagsOf (diagnosisTaken asked t p (length payload)) p payload diags
+    kept-diags asked s = diag-pool (judgedAs asked (p .station)) s

@@ -21,7 +21,7 @@ use Rattle.station.specs.declared.state.PeripheralEvent.{PeripheralEvent}
 use Rattle.station.specs.declared.state.PeripheralState.the-variants.{WaitForConfig, ValidateConfig}
 use Rattle.station.specs.State.{stateOf}
 use Rattle.station.specs.Record.{withDiagnosis}
-use Rattle.station.specs.Visit.{requestOf}
+use Rattle.station.specs.Visit.{judgedAs}
 use Rattle.station.specs.Heard.{diagnosisHeard, diagnosisMissed, acknowledgementHeard, dataHeard, isExchanged}
 use Rattle.peripheral.specs.declared.record.Peripheral.{Peripheral}
 use Rattle.peripheral.specs.declared.response.Extended.{Extended}
@@ -90,9 +90,9 @@ abbrev pub replyTo : Request → Telegram → Peripheral → List ℕ → ℕ �
 replyTo k t p payload inputs diags =
     withHeard p (answerTo k t p payload inputs diags) (keepsOf k t p payload diags (answerTo k t p payload inputs diags .event))
 
--- it answers the request that the balance's state is about
-abbrev pub replyOf : Telegram → Peripheral → List ℕ → ℕ → ℕ → Reply
-replyOf t p payload inputs diags = replyTo (requestOf (p .station)) t p payload inputs diags
+-- it is judged by what was asked
+abbrev pub replyOf : Request → Telegram → Peripheral → List ℕ → ℕ → ℕ → Reply
+replyOf asked t p payload inputs diags = replyTo (judgedAs asked (p .station)) t p payload inputs diags
 
 -- ---- the pools
 
@@ -122,8 +122,8 @@ pub record Kept (k : Keeps) (p : Peripheral) (payload inputs diags outInputs out
 -- ---- the same, by what the reply is
 
 -- the reply is taken as a diagnosis, n being the length of its payload
-abbrev pub diagnosisTaken : Telegram → Peripheral → ℕ → Bool
-diagnosisTaken t p n = isDiagnosis (requestOf (p .station)) && taken t n
+abbrev pub diagnosisTaken : Request → Telegram → Peripheral → ℕ → Bool
+diagnosisTaken asked t p n = isDiagnosis (judgedAs asked (p .station)) && taken t n
 
 -- the input pool after an event: with DataExchanged it has what came, else it is as it was
 abbrev pub inputsOf : PeripheralEvent → List ℕ → Peripheral → List ℕ → List ℕ

@@ -138,19 +138,20 @@ impl Peripheral {
         self.with_heard(s.diagnosis_missed(), Keeps::Neither)
     }
 
-    // The reply to the open request, with the payload that came with it; the lent pools are so long.
+    // The reply to the request that was asked, with the payload that came with it; the lent pools are so long.
     // Nothing is written: `keep` does it, once the record is stored.
     pub fn receive_reply(
         self,
+        asked: Request,
         telegram: Telegram,
         payload: &[u8],
         inputs: usize,
         diags: usize,
     ) -> Reply
-        ensures { λ r. ⌜ r ≡ replyOf telegram self (now (payload .entry)) inputs diags ⌝ }
+        ensures { λ r. ⌜ r ≡ replyOf asked telegram self (now (payload .entry)) inputs diags ⌝ }
     {
         let s = self.station;
-        let kind = s.request();
+        let kind = s.judged_as(asked);
         match kind {
             Request::Diagnosis => self.handle_diagnostics_response(telegram, payload, diags),
             Request::Parameters => {

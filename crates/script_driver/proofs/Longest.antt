@@ -159,7 +159,7 @@ parameters-most : (u : Parameters) → length (parametersText u) ≤ 231
 unfolding parametersText
 parameters-most u = fields-most _
 
-state-most : (s : DpMasterState) → length (stateText s) ≤ 147
+state-most : (s : DpMasterState) → length (stateText s) ≤ 168
 unfolding stateText
 state-most s = fields-most _
 

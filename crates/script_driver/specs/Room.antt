@@ -13,7 +13,7 @@ abbrev pub fieldMost : ℕ
 fieldMost = 21
 
 -- No answer is longer: a letter, a newline, the 123 fields of the longest H (number, count, 40 entries of three bytes, sum) and the 25
--- fields of each slot of a D. A D has 27 fields before its slots, and 300 bytes in hex take less than 29 fields: H leaves room for both.
+-- fields of each slot of a D. A D has 28 fields before its slots, and 300 bytes in hex take less than 29 fields: H leaves room for both.
 abbrev pub longest : ℕ
 longest = 2 + fieldMost * (123 + 25 * slots)
 

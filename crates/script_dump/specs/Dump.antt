@@ -1,4 +1,4 @@
--- The dump of a unit. From docs/SCRIPTS.md, "D": the nine groups of fields in their order.
+-- The dump of a unit. From docs/SCRIPTS.md, "D": the ten groups of fields in their order.
 use Prim.Native.Nat.{ℕ, zero, suc, _+_}
 use mathlib.Core.Bool.{Bool, true, false, not, cond}
 use mathlib.Core.List.{List, [], _∷_, _++_}
@@ -32,7 +32,7 @@ parametersText u =
     ∷ u .«diag_pool»
     ∷ [])
 
--- 2 to 6: `op lt t lg g place open`; a time is 0, and a place or a slot 255, where there is none
+-- 2 to 7: `op lt t lg g place open asked`; a time is 0, a place or a slot 255, and what was asked 0, where there is none
 unfoldable pub stateText : DpMasterState → List ℕ
 stateText s =
     fieldsText
@@ -43,9 +43,10 @@ stateText s =
     ∷ cond (s .controlled) (s .«last_control») 0
     ∷ cond (not (s .completed)) (s .slot) 255
     ∷ cond (not (eqb (s .«open_kind») 0)) (s .«open_slot») 255
+    ∷ s .«open_kind»
     ∷ [])
 
--- 7 and 8: `us ui uq ud cs ci cq cd`
+-- 8 and 9: `us ui uq ud cs ci cq cd`
 unfoldable pub poolsText : Used → Sums → List ℕ
 poolsText used sums =
     fieldsText
@@ -104,7 +105,7 @@ unfoldable pub slotsFrom : ℕ → List Bool → List Peripheral → ℕ → Lis
 slotsFrom zero marks all i = []
 slotsFrom (suc n) marks all i = slotIf (getD marks i false) i (getD all i blank) ++ slotsFrom n marks all (i + 1)
 
--- D, and 9: `n`, and each occupied slot
+-- D, and 10: `n`, and each occupied slot
 unfoldable pub dumpText : DpMaster → Sums → List ℕ
 dumpText m sums =
     0x44

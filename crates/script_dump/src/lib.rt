@@ -68,6 +68,7 @@ fn state(out: &mut [u8], at: usize, s: DpMasterState) -> usize
         time_of(s.controlled, s.last_control),
         slot_of(!s.completed, s.slot),
         slot_of(s.open_kind != 0, s.open_slot),
+        s.open_kind as u64,
     ];
     write::fields(out, at, &list)
 }

@@ -1,9 +1,10 @@
 -- Which replies report DataExchanged.
--- The idea: only the answer to a data request can, and only where what came is the input image.
+-- The idea: only the answer to a data request does, and exactly where it is data and what came is the input image.
 use mathlib.Core.Path.{_≡_, refl}
-use mathlib.Core.Bool.{Bool, true, false, false≢true}
+use mathlib.Core.Bool.{Bool, true, false, _&&_}
 use Prim.Native.Nat.{ℕ}
 use lib.Dec.{eqb}
+use borrow.Author.Tests.{eqb-true}
 use Rattle.parts.proofs.Laws.{by-test}
 use Rattle.fdl.specs.Status.{among, dataCodes}
 use Rattle.fdl.specs.declared.telegram.Telegram.{Telegram}
@@ -38,20 +39,32 @@ pub acknowledgement-keeps : (short : Bool) (next : PeripheralState) (p : Station
 acknowledgement-keeps true next p = refl
 acknowledgement-keeps false next p = refl
 
-exchanged-fits : (fits : Bool) (p : Station) → isExchanged (exchangedOf fits p .event) ≡ true → fits ≡ true
-exchanged-fits true p x = refl
-exchanged-fits false p x = absurd (false≢true x)
+-- a reply that is data: a short confirmation, or a status among those of data
+abbrev pub carriesData : Telegram → Bool
+carriesData ShortConfirmation = true
+carriesData (Data dsap ssap status) = among status dataCodes
+carriesData Token = false
+carriesData Request = false
 
-status-fits : (n : ℕ) (fits : Bool) (p : Station) → isExchanged (statusHeard n fits p .event) ≡ true → fits ≡ true
-status-fits n fits p x =
-    by-test (eqb n 3) (λ a. absurd (false≢true (rw a at x)))
-    (λ a. by-test (among n dataCodes) (λ d. exchanged-fits fits _ (rw (a, d) at x)) (λ d. absurd (false≢true (rw (a, d) at x))))
+exchanged-when : (fits : Bool) (p : Station) → isExchanged (exchangedOf fits p .event) ≡ fits
+exchanged-when true p = refl
+exchanged-when false p = refl
 
-telegram-fits : (t : Telegram) (fits : Bool) (p : Station) → isExchanged (telegramHeard t fits p .event) ≡ true → fits ≡ true
-telegram-fits ShortConfirmation fits p x = exchanged-fits fits p x
-telegram-fits (Data dsap ssap status) fits p x = status-fits status fits p x
-telegram-fits Token fits p x = absurd (false≢true x)
-telegram-fits Request fits p x = absurd (false≢true x)
+-- status 3 is none of them
+three-no-data : (n : ℕ) → eqb n 3 ≡ true → among n dataCodes ≡ false
+three-no-data n e = let q : n ≡ 3 = eqb-true n 3 e in rw q refl
 
-pub data-fits : (t : Telegram) (fits : Bool) (p : Station) → isExchanged (dataHeard t fits p .event) ≡ true → fits ≡ true
-data-fits t fits p x = telegram-fits t fits _ x
+status-when : (n : ℕ) (fits : Bool) (p : Station) → isExchanged (statusHeard n fits p .event) ≡ (among n dataCodes && fits)
+status-when n fits p =
+    by-test (eqb n 3) (λ a. rw (a, three-no-data n a) refl)
+    (λ a. by-test (among n dataCodes) (λ d. rw (a, d) (exchanged-when fits _)) (λ d. rw (a, d) refl))
+
+telegram-when : (t : Telegram) (fits : Bool) (p : Station) → isExchanged (telegramHeard t fits p .event) ≡ (carriesData t && fits)
+telegram-when ShortConfirmation fits p = exchanged-when fits p
+telegram-when (Data dsap ssap status) fits p = status-when status fits p
+telegram-when Token fits p = refl
+telegram-when Request fits p = refl
+
+-- the answer to a data request reports it exactly when it is data and the input image
+pub data-when : (t : Telegram) (fits : Bool) (p : Station) → isExchanged (dataHeard t fits p .event) ≡ (carriesData t && fits)
+data-when t fits p = telegram-when t fits _

@@ -1,8 +1,8 @@
--- What a reply does to a station: one row for each line of 01's list by state, with what is known of the reply there, and by the request that it answers.
+-- What a reply does to a station: one row for each line of 01's list by state, with what is known of the reply there, and by the request that it is judged to answer.
 -- The idea: the tests of the definitions are gone through here and nowhere else; a fact of replies is then one line a row.
 use mathlib.Core.Path.{_≡_, refl, sym, _∙_}
 use Prim.Native.Nat.{ℕ}
-use mathlib.Core.Bool.{Bool, true, false, _||_, false≢true, cond}
+use mathlib.Core.Bool.{Bool, true, false, not, _||_, false≢true, cond}
 use lib.Dec.{eqb}
 use borrow.Author.Tests.{eqb-true}
 use Rattle.parts.proofs.Laws.{by-test}
@@ -11,7 +11,7 @@ use Rattle.fdl.specs.declared.telegram.Telegram.{Telegram}
 use Rattle.fdl.specs.declared.telegram.Telegram.the-variants.{ShortConfirmation, Data as DataReply, Token, Request as RequestTelegram}
 use Rattle.payloads.specs.declared.request.Request.{Request}
 use Rattle.payloads.specs.declared.request.Request.the-variants.{Diagnosis, Parameters, Configuration, Data}
-use Rattle.payloads.specs.Request.{isDiagnosis}
+use Rattle.payloads.specs.Request.{isData}
 use Rattle.payloads.specs.Diagnosis.{flag}
 use Rattle.station.specs.declared.record.Station.{Station}
 use Rattle.station.specs.declared.heard.Heard.{Heard}
@@ -20,7 +20,7 @@ use Rattle.station.specs.declared.state.PeripheralState.the-variants.{Of
 use Rattle.station.specs.declared.state.PeripheralEvent.the-variants.{NoEvent, Online, Configured, ConfigError, ParameterError, DataExchanged, Diagnostics}
 use Rattle.station.specs.State.{stateOf}
 use Rattle.station.specs.Record.{inState, counting, cycling, dueIs}
-use Rattle.station.specs.Visit.{requestIn, requestOf}
+use Rattle.station.specs.Visit.{requestIn, judgedAs}
 use Rattle.station.specs.Heard.{reports, byFlags, diagnosisHeard, diagnosisMissed, acknowledgementHeard, exchangedOf, statusHeard, telegramHeard, dataHeard}
 
 -- PreDataExchange or DataExchange
@@ -41,7 +41,7 @@ coded n RequestTelegram = false
 
 -- ---- the rows
 
--- s: the station before; took: the reply is taken as a diagnosis, q is the station then; three, ten: its status; then the request that is answered, and what is heard
+-- s: the station before; took: the reply is taken as a diagnosis, q is the station then; three, ten: its status; then the request that it is judged to answer, and what is heard
 pub data ReplyRow (s q : Station) (t : Telegram) (took three ten : Bool) : Request → Heard → Type 0 where
   -- Offline
   comes-online : stateOf (s .state) ≡ Offline → took ≡ true → ReplyRow s q t took three ten Diagnosis (reports Online (inState WaitForParam (counting 0 q)))
@@ -58,15 +58,13 @@ pub data ReplyRow (s q : Station) (t : Telegram) (took three ten : Bool) : Reque
   not-ready : stateOf (s .state) ≡ ValidateConfig → took ≡ true → flag 0x0040 (q .diag .flags) ≡ false → flag 0x0004 (q .diag .flags) ≡ false → flag 0x0100 (q .diag .flags) ≡ false → flag 0x0002 (q .diag .flags) ≡ true → ReplyRow s q t took three ten Diagnosis (reports NoEvent (counting 0 q))
   is-configured : stateOf (s .state) ≡ ValidateConfig → took ≡ true → flag 0x0040 (q .diag .flags) ≡ false → flag 0x0004 (q .diag .flags) ≡ false → flag 0x0100 (q .diag .flags) ≡ false → flag 0x0002 (q .diag .flags) ≡ false → ReplyRow s q t took three ten Diagnosis (reports Configured (inState PreDataExchange (counting 0 q)))
   unvalidated : stateOf (s .state) ≡ ValidateConfig → took ≡ false → ReplyRow s q t took three ten Diagnosis (reports NoEvent (counting 0 s))
-  -- PreDataExchange, DataExchange: with a diagnosis due, which may have been wished for since data was asked
-  diagnosed : exchanging (stateOf (s .state)) ≡ true → s .«diag_needed» ≡ true → took ≡ true → ReplyRow s q t took three ten Diagnosis (reports Diagnostics (counting 0 (dueIs false q)))
-  undiagnosed : exchanging (stateOf (s .state)) ≡ true → s .«diag_needed» ≡ true → took ≡ false → ReplyRow s q t took three ten Diagnosis (reports NoEvent s)
-  diagnosed-late : exchanging (stateOf (s .state)) ≡ true → s .«diag_needed» ≡ true → took ≡ true → ReplyRow s q t took three ten Data (reports Diagnostics (counting 0 (dueIs false q)))
-  undiagnosed-late : exchanging (stateOf (s .state)) ≡ true → s .«diag_needed» ≡ true → took ≡ false → ReplyRow s q t took three ten Data (reports NoEvent s)
-  -- PreDataExchange, DataExchange: else; j: status 10
-  data-stored : (j : Bool) → exchanging (stateOf (s .state)) ≡ true → s .«diag_needed» ≡ false → three ≡ false → ten ≡ j → ReplyRow s q t took three ten Data (reports DataExchanged (inState DataExchange (dueIs (j || s .«diag_needed») (counting 0 (cycling s)))))
-  data-unused : (j : Bool) → exchanging (stateOf (s .state)) ≡ true → s .«diag_needed» ≡ false → three ≡ false → ten ≡ j → ReplyRow s q t took three ten Data (reports NoEvent (dueIs (j || s .«diag_needed») (counting 0 (cycling s))))
-  data-denied : exchanging (stateOf (s .state)) ≡ true → s .«diag_needed» ≡ false → three ≡ true → ten ≡ false → ReplyRow s q t took three ten Data (reports NoEvent (inState ValidateConfig (counting 0 (cycling s))))
+  -- PreDataExchange, DataExchange: a diagnosis was asked
+  diagnosed : exchanging (stateOf (s .state)) ≡ true → took ≡ true → ReplyRow s q t took three ten Diagnosis (reports Diagnostics (counting 0 (dueIs false q)))
+  undiagnosed : exchanging (stateOf (s .state)) ≡ true → took ≡ false → ReplyRow s q t took three ten Diagnosis (reports NoEvent s)
+  -- PreDataExchange, DataExchange: data was asked; j: status 10
+  data-stored : (j : Bool) → exchanging (stateOf (s .state)) ≡ true → three ≡ false → ten ≡ j → ReplyRow s q t took three ten Data (reports DataExchanged (inState DataExchange (dueIs (j || s .«diag_needed») (counting 0 (cycling s)))))
+  data-unused : (j : Bool) → exchanging (stateOf (s .state)) ≡ true → three ≡ false → ten ≡ j → ReplyRow s q t took three ten Data (reports NoEvent (dueIs (j || s .«diag_needed») (counting 0 (cycling s))))
+  data-denied : exchanging (stateOf (s .state)) ≡ true → three ≡ true → ten ≡ false → ReplyRow s q t took three ten Data (reports NoEvent (inState ValidateConfig (counting 0 (cycling s))))
 
 -- ---- what a station makes of a reply that answers a request; fits: what came is the input image
 
@@ -76,7 +74,7 @@ heardFor Parameters t took q fits s = acknowledgementHeard (isShort t) WaitForCo
 heardFor Configuration t took q fits s = acknowledgementHeard (isShort t) ValidateConfig s
 heardFor Data t took q fits s = dataHeard t fits s
 
--- ---- every reply is in a row, by the request that it answers
+-- ---- every reply is in a row, by the request that it is judged to answer
 
 not-ten : (n : ℕ) → among n dataCodes ≡ false → eqb n 10 ≡ false
 not-ten n e = by-test (eqb n 10) (λ f. let q : n ≡ 10 = eqb-true n 10 f in absurd (false≢true (sym (rw q at e)))) (λ f. f)
@@ -116,58 +114,35 @@ module _ (s q : Station) (t : Telegram) (took fits : Bool) where
     validated-row false e = unvalidated x e
 
   module _ (x : exchanging (stateOf (s .state)) ≡ true) where
-    diagnosed-row : (b : Bool) → s .«diag_needed» ≡ true → took ≡ b → Here Diagnosis (cond b (diagnosisHeard DataExchange q) (diagnosisMissed DataExchange s))
-    diagnosed-row true d e = diagnosed x d e
-    diagnosed-row false d e = undiagnosed x d e
+    diagnosed-row : (b : Bool) → took ≡ b → Here Diagnosis (cond b (diagnosisHeard DataExchange q) (diagnosisMissed DataExchange s))
+    diagnosed-row true e = diagnosed x e
+    diagnosed-row false e = undiagnosed x e
 
-    late-row : (b : Bool) → s .«diag_needed» ≡ true → took ≡ b → Here Data (cond b (diagnosisHeard DataExchange q) (diagnosisMissed DataExchange s))
-    late-row true d e = diagnosed-late x d e
-    late-row false d e = undiagnosed-late x d e
+    exchanged-row : (b j : Bool) → coded 3 t ≡ false → coded 10 t ≡ j → Here Data (exchangedOf b (dueIs (j || s .«diag_needed») (counting 0 (cycling s))))
+    exchanged-row true j e f = data-stored j x e f
+    exchanged-row false j e f = data-unused j x e f
 
-    exchanged-row : (b j : Bool) → s .«diag_needed» ≡ false → coded 3 t ≡ false → coded 10 t ≡ j → Here Data (exchangedOf b (dueIs (j || s .«diag_needed») (counting 0 (cycling s))))
-    exchanged-row true j d e f = data-stored j x d e f
-    exchanged-row false j d e f = data-unused j x d e f
+    status-row : (n : ℕ) → coded 3 t ≡ eqb n 3 → coded 10 t ≡ eqb n 10 → Here Data (statusHeard n fits (counting 0 (cycling s)))
+    status-row n e f =
+        by-test (eqb n 3) (λ a. rw a (data-denied x (e ∙ a) (f ∙ three-not-ten n a)))
+        (λ a. by-test (among n dataCodes) (λ b. rw (a, b) (exchanged-row fits (eqb n 10) (e ∙ a) f))
+        (λ b. rw (a, b) (data-unused false x (e ∙ a) (f ∙ not-ten n b))))
 
-    status-row : (n : ℕ) → s .«diag_needed» ≡ false → coded 3 t ≡ eqb n 3 → coded 10 t ≡ eqb n 10 → Here Data (statusHeard n fits (counting 0 (cycling s)))
-    status-row n d e f =
-        by-test (eqb n 3) (λ a. rw a (data-denied x d (e ∙ a) (f ∙ three-not-ten n a)))
-        (λ a. by-test (among n dataCodes) (λ b. rw (a, b) (exchanged-row fits (eqb n 10) d (e ∙ a) f))
-        (λ b. rw (a, b) (data-unused false x d (e ∙ a) (f ∙ not-ten n b))))
+    read-row : (u : Telegram) → t ≡ u → Here Data (telegramHeard u fits (counting 0 (cycling s)))
+    read-row ShortConfirmation e = exchanged-row fits false (rw e refl) (rw e refl)
+    read-row (DataReply dsap ssap n) e = status-row n (rw e refl) (rw e refl)
+    read-row Token e = data-unused false x (rw e refl) (rw e refl)
+    read-row RequestTelegram e = data-unused false x (rw e refl) (rw e refl)
 
-    read-row : (u : Telegram) → t ≡ u → s .«diag_needed» ≡ false → Here Data (telegramHeard u fits (counting 0 (cycling s)))
-    read-row ShortConfirmation e d = exchanged-row fits false d (rw e refl) (rw e refl)
-    read-row (DataReply dsap ssap n) e d = status-row n d (rw e refl) (rw e refl)
-    read-row Token e d = data-unused false x d (rw e refl) (rw e refl)
-    read-row RequestTelegram e d = data-unused false x d (rw e refl) (rw e refl)
+  row-in : (x : PeripheralState) (b : Bool) → stateOf (s .state) ≡ x → Here (requestIn x b) (heardFor (requestIn x b) t took q fits s)
+  row-in Offline b x = rw x (found-row took refl x)
+  row-in WaitForParam b x = to-config-row (isShort t) refl x
+  row-in WaitForConfig b x = to-validate-row (isShort t) refl x
+  row-in ValidateConfig b x = rw x (validated-row x took refl)
+  row-in PreDataExchange true x = rw x (diagnosed-row (rw x refl) took refl)
+  row-in PreDataExchange false x = read-row (rw x refl) t refl
+  row-in DataExchange true x = rw x (diagnosed-row (rw x refl) took refl)
+  row-in DataExchange false x = read-row (rw x refl) t refl
 
-  diagnosis-in : (x : PeripheralState) (d : Bool) → stateOf (s .state) ≡ x → s .«diag_needed» ≡ d → isDiagnosis (requestIn x d) ≡ true → Here Diagnosis (heardFor (requestIn x d) t took q fits s)
-  diagnosis-in Offline d x e h = rw x (found-row took refl x)
-  diagnosis-in WaitForParam d x e h = absurd (false≢true h)
-  diagnosis-in WaitForConfig d x e h = absurd (false≢true h)
-  diagnosis-in ValidateConfig d x e h = rw x (validated-row x took refl)
-  diagnosis-in PreDataExchange true x e h = rw x (diagnosed-row (rw x refl) took e refl)
-  diagnosis-in PreDataExchange false x e h = absurd (false≢true h)
-  diagnosis-in DataExchange true x e h = rw x (diagnosed-row (rw x refl) took e refl)
-  diagnosis-in DataExchange false x e h = absurd (false≢true h)
-
-  data-in : (x : PeripheralState) (d : Bool) → stateOf (s .state) ≡ x → s .«diag_needed» ≡ d → exchanging x ≡ true → Here Data (heardFor (requestIn x d) t took q fits s)
-  data-in Offline d x e h = absurd (false≢true h)
-  data-in WaitForParam d x e h = absurd (false≢true h)
-  data-in WaitForConfig d x e h = absurd (false≢true h)
-  data-in ValidateConfig d x e h = absurd (false≢true h)
-  data-in PreDataExchange true x e h = rw x (late-row (rw x refl) took e refl)
-  data-in PreDataExchange false x e h = read-row (rw x refl) t refl e
-  data-in DataExchange true x e h = rw x (late-row (rw x refl) took e refl)
-  data-in DataExchange false x e h = read-row (rw x refl) t refl e
-
-  pub diagnosis-row : isDiagnosis (requestOf s) ≡ true → Here Diagnosis (heardFor (requestOf s) t took q fits s)
-  diagnosis-row h = diagnosis-in (stateOf (s .state)) (s .«diag_needed») refl refl h
-
-  pub parameters-row : stateOf (s .state) ≡ WaitForParam → Here Parameters (heardFor (requestOf s) t took q fits s)
-  parameters-row x = rw x (to-config-row (isShort t) refl x)
-
-  pub configuration-row : stateOf (s .state) ≡ WaitForConfig → Here Configuration (heardFor (requestOf s) t took q fits s)
-  configuration-row x = rw x (to-validate-row (isShort t) refl x)
-
-  pub data-row : exchanging (stateOf (s .state)) ≡ true → Here Data (heardFor (requestOf s) t took q fits s)
-  data-row h = data-in (stateOf (s .state)) (s .«diag_needed») refl refl h
+  pub reply-row : (asked : Request) → Here (judgedAs asked s) (heardFor (judgedAs asked s) t took q fits s)
+  reply-row asked = row-in (stateOf (s .state)) (not (isData asked)) refl

@@ -1,10 +1,11 @@
--- A visit: which request a state is about, what the visit does, and the station afterwards.
--- From 01, "One visit and one reply", its first paragraph.
+-- Which request a state is about; a visit: what it does, and the station afterwards.
+-- From 01, "One visit and one reply", its first paragraph, and the list by state on what a reply is judged as.
 use Prim.Native.Nat.{ℕ}
-use mathlib.Core.Bool.{Bool, true, cond}
+use mathlib.Core.Bool.{Bool, true, not, cond}
 use lib.Dec.{ltb, eqb}
 use Rattle.payloads.specs.declared.request.Request.{Request}
 use Rattle.payloads.specs.declared.request.Request.the-variants.{Diagnosis, Parameters, Configuration, Data}
+use Rattle.payloads.specs.Request.{isData}
 use Rattle.station.specs.declared.record.Station.{Station}
 use Rattle.station.specs.declared.state.PeripheralState.{PeripheralState}
 use Rattle.station.specs.declared.state.PeripheralState.the-variants.{Offline, WaitForParam, WaitForConfig, ValidateConfig, PreDataExchange, DataExchange}
@@ -13,17 +14,22 @@ use Rattle.station.specs.declared.visit.Visited.the-variants.{Sends, Dro
 use Rattle.station.specs.State.{stateOf}
 use Rattle.station.specs.Record.{inState, counting, oneMore}
 
--- the request that a state is about, a diagnosis being due or not: a visit sends it, and a reply is judged as its answer
+-- the request that a state is about; in the exchange states there are two, a diagnosis and data
 abbrev pub requestIn : PeripheralState → Bool → Request
-requestIn Offline due = Diagnosis
-requestIn WaitForParam due = Parameters
-requestIn WaitForConfig due = Configuration
-requestIn ValidateConfig due = Diagnosis
-requestIn PreDataExchange due = cond due Diagnosis Data
-requestIn DataExchange due = cond due Diagnosis Data
+requestIn Offline diagnosis = Diagnosis
+requestIn WaitForParam diagnosis = Parameters
+requestIn WaitForConfig diagnosis = Configuration
+requestIn ValidateConfig diagnosis = Diagnosis
+requestIn PreDataExchange diagnosis = cond diagnosis Diagnosis Data
+requestIn DataExchange diagnosis = cond diagnosis Diagnosis Data
 
+-- a visit sends it: in the exchange states a diagnosis if due, else data
 abbrev pub requestOf : Station → Request
 requestOf p = requestIn (stateOf (p .state)) (p .«diag_needed»)
+
+-- a reply is judged as its answer: in the exchange states as data where data was asked, and as a diagnosis else, whatever is due
+abbrev pub judgedAs : Request → Station → Request
+judgedAs asked p = requestIn (stateOf (p .state)) (not (isData asked))
 
 -- it can be sent: Offline only with count 0, and set-up data (user, config) where it is needed
 abbrev pub canSend : PeripheralState → ℕ → Bool → Bool → Bool

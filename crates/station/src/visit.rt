@@ -1,7 +1,7 @@
-// The visit that a turn makes: what it does, and the station afterwards.
+// The request that a state is about, and the visit that a turn makes: what it does, and the station afterwards.
 ghost use mathlib.Core.Path.{_≡_};
 ghost use Rattle.station.specs.Record.{oneMore};
-ghost use Rattle.station.specs.Visit.{requestIn, requestOf, canSend, actionOf, visitedOf};
+ghost use Rattle.station.specs.Visit.{requestIn, requestOf, judgedAs, canSend, actionOf, visitedOf};
 use crate::record::Station;
 use crate::state::PeripheralState;
 use payloads::request::Request;
@@ -23,11 +23,11 @@ fn one_more(count: u8) -> u8
     if count < 255 { count + 1 } else { 255 }
 }
 
-// In the exchange states: a diagnosis that is due comes before data.
-fn exchange_request(due: bool) -> Request
-    ensures { λ r. ⌜ r ≡ requestIn PeripheralState.PreDataExchange due ⌝ }
+// In the exchange states: a diagnosis, or data.
+fn exchange_request(diagnosis: bool) -> Request
+    ensures { λ r. ⌜ r ≡ requestIn PeripheralState.PreDataExchange diagnosis ⌝ }
 {
-    if due {
+    if diagnosis {
         Request::Diagnosis
     } else {
         Request::Data
@@ -35,17 +35,17 @@ fn exchange_request(due: bool) -> Request
 }
 
 impl PeripheralState {
-    // The request that the state is about: a visit sends it, and a reply is judged as its answer.
-    fn request(self, due: bool) -> Request
-        ensures { λ r. ⌜ r ≡ requestIn self due ⌝ }
+    // The request that the state is about; in the exchange states there are two, a diagnosis and data.
+    fn request(self, diagnosis: bool) -> Request
+        ensures { λ r. ⌜ r ≡ requestIn self diagnosis ⌝ }
     {
         match self {
             PeripheralState::Offline => Request::Diagnosis,
             PeripheralState::WaitForParam => Request::Parameters,
             PeripheralState::WaitForConfig => Request::Configuration,
             PeripheralState::ValidateConfig => Request::Diagnosis,
-            PeripheralState::PreDataExchange => exchange_request(due),
-            PeripheralState::DataExchange => exchange_request(due),
+            PeripheralState::PreDataExchange => exchange_request(diagnosis),
+            PeripheralState::DataExchange => exchange_request(diagnosis),
         }
     }
 
@@ -65,11 +65,19 @@ impl PeripheralState {
 }
 
 impl Station {
-    // The request that its state is about.
-    pub fn request(self) -> Request
+    // The request that a visit sends: in the exchange states a diagnosis that is due comes before data.
+    fn request(self) -> Request
         ensures { λ r. ⌜ r ≡ requestOf self ⌝ }
     {
         PeripheralState::of(self.state).request(self.diag_needed)
+    }
+
+    // The request that a reply is judged to answer, where `asked` was asked: a weight that comes to a data request is never read as a diagnosis.
+    pub fn judged_as(self, asked: Request) -> Request
+        ensures { λ r. ⌜ r ≡ judgedAs asked self ⌝ }
+    {
+        let data = asked.is_data();
+        PeripheralState::of(self.state).request(!data)
     }
 
     // What a visit does; user parameters and configuration are present or not.

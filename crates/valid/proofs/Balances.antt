@@ -191,6 +191,10 @@ module _ (m : DpMaster) where
   pub opened-kind : Opened m → (1 ≤ m .state .«open_kind») × (m .state .«open_kind» ≤ 4)
   opened-kind o = let s = balance m (m .state .«open_slot») .station in kind-among (m .state .«open_kind») (s .«diag_needed») (stateOf (s .state)) (o .fit)
 
+  -- so the kind that is kept is that of one of the four requests, or 0
+  pub kind-known : Valid m → m .state .«open_kind» ≤ 4
+  kind-known v = ⊎-elim (λ c. rw (c .kind) (omega arith)) (λ o. opened-kind o .1) (v .standing .request)
+
   -- and what has a kind is open
   pub open-there : Valid m → eqb (m .state .«open_kind») 0 ≡ false → Opened m
   open-there v e = ⊎-elim (λ c. absurd (false≢true (sym e ∙ eq-eqb (m .state .«open_kind») 0 (c .kind)))) (λ o. o) (v .standing .request)

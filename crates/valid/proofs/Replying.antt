@@ -13,7 +13,8 @@ use Rattle.parts.proofs.Laws.{by-test, and-left, and-right}
 use Rattle.fdl.specs.declared.telegram.Telegram.{Telegram}
 use Rattle.payloads.specs.Diagnosis.{taken, flag, diagnosisOf}
 use Rattle.station.specs.Record.{withDiagnosis}
-use Rattle.station.specs.Visit.{requestOf}
+use Rattle.payloads.specs.declared.request.Request.{Request}
+use Rattle.station.specs.Visit.{judgedAs}
 use Rattle.peripheral.specs.declared.record.Peripheral.{Peripheral}
 use Rattle.peripheral.specs.Record.{blank, stationIs}
 use Rattle.peripheral.specs.Response.{partFits, payloadPart, stationDiagnosed, fitsImage, answerTo, replyOf}
@@ -26,7 +27,7 @@ use Rattle.cycle.proofs.Laws.{reply-open, reply-slot}
 use Rattle.master.specs.declared.unit.DpMaster.{DpMaster}
 use Rattle.master.specs.declared.receive.Answered.{Answered}
 use Rattle.master.specs.Unit.{stateIs, balancesAre}
-use Rattle.master.specs.Receive.{openBalance, replyAt, unitReplied, Received}
+use Rattle.master.specs.Receive.{openBalance, openRequest, replyAt, unitReplied, Received}
 use Rattle.valid.specs.Valid.{Sound, Standing, Valid, occupied}
 use Rattle.valid.proofs.Stations.{sound-took, sound-steady, address-steady, heard-keeps}
 use Rattle.valid.proofs.Balances.{next-station, valid-set, open-there}
@@ -55,25 +56,25 @@ unfolding diagnosisOf
 taken-held payload = refl
 
 module _ (m : DpMaster) (t : Telegram) (payload inputs diags : List ℕ) (v : Valid m) where
-  put-back : (k next : ℕ) → occupied m k
-      → Valid (stateIs (answered next (m .state)) (balancesAre (set (m .peripherals) k (replyOf t (getD (m .peripherals) k blank) payload (length inputs) (length diags) .peripheral)) m))
+  put-back : (k next : ℕ) (asked : Request) → occupied m k
+      → Valid (stateIs (answered next (m .state)) (balancesAre (set (m .peripherals) k (replyOf asked t (getD (m .peripherals) k blank) payload (length inputs) (length diags) .peripheral)) m))
   unfolding stationDiagnosed withDiagnosis
-  put-back k next o =
+  put-back k next asked o =
       let p = getD (m .peripherals) k blank in
       let limit = m .parameters .«max_retry_limit» in
       let room = p .ranges .«diag_room» in
       let took = taken t (length payload) in
       let fits = fitsImage t p (length payload) (length inputs) in
       let q = stationDiagnosed p payload (length diags) in
-      let h = answerTo (requestOf (p .station)) t p payload (length inputs) (length diags) in
-      let is = sym (answer-heard (requestOf (p .station)) t p payload (length inputs) (length diags)) in
-      let same : h .station .address ≡ p .station .address = subst (λ r. r .station .address ≡ p .station .address) is (heard-keeps _ (address-steady (p .station .address)) q (p .station) refl refl t took fits) in
+      let h = answerTo (judgedAs asked (p .station)) t p payload (length inputs) (length diags) in
+      let is = sym (answer-heard (judgedAs asked (p .station)) t p payload (length inputs) (length diags)) in
+      let same : h .station .address ≡ p .station .address = subst (λ r. r .station .address ≡ p .station .address) is (heard-keeps _ (address-steady (p .station .address)) q (p .station) refl refl t took fits asked) in
       let stored = payloadPart p payload (length diags) .len in
       valid-set m v k (stationIs (h .station) p) (answered next (m .state)) o
       (next-station (m .parameters) (getD (m .occupied) k false) p (h .station) o
       (λ g.
       subst (λ r. Sound limit room (r .station)) is
-      (heard-keeps (Sound limit room) (sound-steady limit room) q (p .station) (sound-took g (diagnosisOf payload) stored (taken-held payload) (stored-fits p payload (length diags) (g .stored))) g t took fits)))
+      (heard-keeps (Sound limit room) (sound-steady limit room) q (p .station) (sound-took g (diagnosisOf payload) stored (taken-held payload) (stored-fits p payload (length diags) (g .stored))) g t took fits asked)))
       (next-standing m next _ (v .standing))
       same
 
@@ -86,7 +87,7 @@ module _ (m : DpMaster) (t : Telegram) (payload inputs diags : List ℕ) (v : Va
 
     accepted : Valid (unitReplied m (replyAt t m payload inputs diags))
     unfolding replyAt
-    accepted = rw index-is (put-back (m .state .«open_slot») (nextAfter (m .occupied) (m .state .«open_slot»)) there)
+    accepted = rw index-is (put-back (m .state .«open_slot») (nextAfter (m .occupied) (m .state .«open_slot»)) (openRequest m) there)
 
 pub reply-valid : (m : DpMaster) (address : ℕ) (t : Telegram) (payload inputs diags outInputs outDiags : List ℕ) (r : Answered) → Received m address t payload inputs diags outInputs outDiags r → Valid m → Valid (r .master)
 reply-valid m address t payload inputs diags outInputs outDiags r c v =

@@ -22,9 +22,9 @@ use Rattle.station.specs.declared.visit.Visited.{Visited}
 use Rattle.station.specs.declared.visit.Visited.the-variants.{Sends, Drops, Skips}
 use Rattle.station.specs.State.{numberOf, stateOf}
 use Rattle.station.specs.Record.{newStation, inState, counting, cycling, dueIs, oneMore, withDiagnosis}
-use Rattle.station.specs.Visit.{requestIn, requestOf, canSend, actionOf, visitedOf}
+use Rattle.station.specs.Visit.{requestIn, judgedAs, canSend, actionOf, visitedOf}
 use Rattle.station.proofs.Visits.{drops, action-drops}
-use Rattle.station.proofs.Rows.{ReplyRow, comes-online, stays-offline, param-confirmed, param-unconfirmed, config-confirmed, config-unconfirmed, param-error, config-error, param-wanted, not-ready, is-configured, unvalidated, diagnosed, undiagnosed, diagnosed-late, undiagnosed-late, data-stored, data-unused, data-denied, heardFor, diagnosis-row, parameters-row, configuration-row, data-row}
+use Rattle.station.proofs.Rows.{ReplyRow, comes-online, stays-offline, param-confirmed, param-unconfirmed, config-confirmed, config-unconfirmed, param-error, config-error, param-wanted, not-ready, is-configured, unvalidated, diagnosed, undiagnosed, data-stored, data-unused, data-denied, heardFor, reply-row}
 use Rattle.valid.specs.Valid.{Sound, fits}
 
 -- ---- the numbers
@@ -184,23 +184,12 @@ module _ (P : Station → Type 0) (c : Steady P) (q s : Station) (gq : P q) (g :
   row-keeps (not-ready x e a b d f) = c .zero-ok q gq
   row-keeps (is-configured x e a b d f) = c .at-ok PreDataExchange (counting 0 q) (c .zero-ok q gq)
   row-keeps (unvalidated x e) = c .zero-ok s g
-  row-keeps (diagnosed x d e) = c .zero-ok (dueIs false q) (c .due-ok false q gq)
-  row-keeps (undiagnosed x d e) = g
-  row-keeps (diagnosed-late x d e) = c .zero-ok (dueIs false q) (c .due-ok false q gq)
-  row-keeps (undiagnosed-late x d e) = g
-  row-keeps (data-stored j x d e f) = c .at-ok DataExchange (dueIs (j || s .«diag_needed») (counting 0 (cycling s))) (c .due-ok (j || s .«diag_needed») (counting 0 (cycling s)) counted)
-  row-keeps (data-unused j x d e f) = c .due-ok (j || s .«diag_needed») (counting 0 (cycling s)) counted
-  row-keeps (data-denied x d e f) = c .at-ok ValidateConfig (counting 0 (cycling s)) counted
+  row-keeps (diagnosed x e) = c .zero-ok (dueIs false q) (c .due-ok false q gq)
+  row-keeps (undiagnosed x e) = g
+  row-keeps (data-stored j x e f) = c .at-ok DataExchange (dueIs (j || s .«diag_needed») (counting 0 (cycling s))) (c .due-ok (j || s .«diag_needed») (counting 0 (cycling s)) counted)
+  row-keeps (data-unused j x e f) = c .due-ok (j || s .«diag_needed») (counting 0 (cycling s)) counted
+  row-keeps (data-denied x e f) = c .at-ok ValidateConfig (counting 0 (cycling s)) counted
 
-  module _ (t : Telegram) (took fits : Bool) where
-    -- whatever the state, some row is the reply's
-    keeps-in : (x : PeripheralState) → stateOf (s .state) ≡ x → P (heardFor (requestOf s) t took q fits s .station)
-    keeps-in Offline x = row-keeps (diagnosis-row s q t took fits (rw x refl))
-    keeps-in WaitForParam x = row-keeps (parameters-row s q t took fits x)
-    keeps-in WaitForConfig x = row-keeps (configuration-row s q t took fits x)
-    keeps-in ValidateConfig x = row-keeps (diagnosis-row s q t took fits (rw x refl))
-    keeps-in PreDataExchange x = row-keeps (data-row s q t took fits (rw x refl))
-    keeps-in DataExchange x = row-keeps (data-row s q t took fits (rw x refl))
-
-    pub heard-keeps : P (heardFor (requestOf s) t took q fits s .station)
-    heard-keeps = keeps-in (stateOf (s .state)) refl
+  -- whatever was asked
+  pub heard-keeps : (t : Telegram) (took fits : Bool) (asked : Request) → P (heardFor (judgedAs asked s) t took q fits s .station)
+  heard-keeps t took fits asked = row-keeps (reply-row s q t took fits asked)

@@ -21,6 +21,9 @@ returns c = let checked = c .before .before in
     let e = rw (checked .before .address .ensures) at (checked .reply-refusal .ensures) in
     rw (ne-eqb _ _ (λ z. c .before .if1 .taken (e ∙ z)), c .refused .ensures, e) refl
 
+of-requires : tie.Need-of-requires
+of-requires c κs = search needs
+
 receive-reply-requires : tie.Need-receive-reply-requires
 receive-reply-requires c κs = search needs
 
@@ -42,12 +45,13 @@ returns-2 c =
     let found = c .before .before in
     let at-index = found .before in
     let heard = at-index .before .before in
-    let at-if1 = heard .before in
+    let at-of = heard .before in
+    let at-if1 = at-of .before in
     let checked = at-if1 .before in
     let at-address = checked .before in
     let asked = at-address .address .ensures in
     let e = rw asked at (checked .reply-refusal .ensures) in
-    rw (eq-eqb _ _ (sym e ∙ at-if1 .if1 .left), c .before .answered .ensures, c .event-handle .ensures, found .next-after .ensures, at-index .index .ensures .0, heard .receive-reply .ensures, asked) refl
+    rw (eq-eqb _ _ (sym e ∙ at-if1 .if1 .left), c .before .answered .ensures, c .event-handle .ensures, found .next-after .ensures, at-index .index .ensures .0, heard .receive-reply .ensures, at-of .of .ensures, asked) refl
 
 pub judge-spec : {M : Type 1} → statement M
 judge-spec =
@@ -57,6 +61,7 @@ judge-spec =
     reply-refusal-requires
     refused-requires
     returns
+    of-requires
     receive-reply-requires
     index-requires
     next-after-requires

@@ -1,12 +1,12 @@
--- `receive_reply` meets its contract: an arm for each request.
+-- `receive_reply` meets its contract: an arm for each request that it can be judged to answer.
 use mathlib.Core.Path.{sym, _∙_}
 use Rattle.peripheral.specs.Response.{answerTo, keepsOf}
 use borrow.Author.Needs.{needs}
 use Rattle.peripheral.proofs.record.Peripheral.receive_reply.Statement.{statement}
 use Rattle.peripheral.proofs.record.Peripheral.receive_reply.Tie as tie
 
-request-requires : tie.Need-request-requires
-request-requires c κs = search needs
+judged-as-requires : tie.Need-judged-as-requires
+judged-as-requires c κs = search needs
 
 enum-told : tie.Need-enum-told
 enum-told c = search needs
@@ -55,23 +55,23 @@ with-heard-requires-3 c κs = search needs
 
 returns : tie.Need-returns
 unfolding answerTo keepsOf
-returns c = rw (sym (c .before .before .before .request .ensures) ∙ c .before .enum-told .given .1) (c .handle-diagnostics-response .ensures)
+returns c = rw (sym (c .before .before .before .judged-as .ensures) ∙ c .before .enum-told .given .1) (c .handle-diagnostics-response .ensures)
 
 returns-2 : tie.Need-returns-2
 unfolding answerTo keepsOf
 returns-2 c =
     let at-is-short-confirmation = c .before .before in
     let told = at-is-short-confirmation .before in
-    let at-request = told .before .before in
-    rw (sym (at-request .request .ensures) ∙ told .enum-told2 .given .1) (rw (c .before .acknowledgement-heard .ensures, at-is-short-confirmation .is-short-confirmation .ensures) at (c .with-heard .ensures))
+    let at-judged-as = told .before .before in
+    rw (sym (at-judged-as .judged-as .ensures) ∙ told .enum-told2 .given .1) (rw (c .before .acknowledgement-heard .ensures, at-is-short-confirmation .is-short-confirmation .ensures) at (c .with-heard .ensures))
 
 returns-3 : tie.Need-returns-3
 unfolding answerTo keepsOf
 returns-3 c =
     let at-is-short-confirmation2 = c .before .before in
     let told = at-is-short-confirmation2 .before in
-    let at-request = told .before .before in
-    rw (sym (at-request .request .ensures) ∙ told .enum-told3 .given .1) (rw (c .before .acknowledgement-heard2 .ensures, at-is-short-confirmation2 .is-short-confirmation2 .ensures) at (c .with-heard2 .ensures))
+    let at-judged-as = told .before .before in
+    rw (sym (at-judged-as .judged-as .ensures) ∙ told .enum-told3 .given .1) (rw (c .before .acknowledgement-heard2 .ensures, at-is-short-confirmation2 .is-short-confirmation2 .ensures) at (c .with-heard2 .ensures))
 
 returns-4 : tie.Need-returns-4
 unfolding answerTo keepsOf
@@ -79,14 +79,14 @@ returns-4 c =
     let at-data-heard = c .before .before in
     let at-fits-image = at-data-heard .before in
     let told = at-fits-image .before in
-    let at-request = told .before .before in
-    rw (sym (at-request .request .ensures) ∙ told .enum-told4 .given .1) (rw (c .before .image-if .ensures, at-data-heard .data-heard .ensures, at-fits-image .fits-image .ensures) at (c .with-heard3 .ensures))
+    let at-judged-as = told .before .before in
+    rw (sym (at-judged-as .judged-as .ensures) ∙ told .enum-told4 .given .1) (rw (c .before .image-if .ensures, at-data-heard .data-heard .ensures, at-fits-image .fits-image .ensures) at (c .with-heard3 .ensures))
 
 pub receive-reply-spec : {M : Type 1} → statement M
 receive-reply-spec =
     tie.close
     (tie.spec
-    request-requires
+    judged-as-requires
     enum-told
     handle-diagnostics-response-requires
     enum-told-2
