@@ -1,21 +1,22 @@
 //! The classes that the scripts have to reach, and how often each was reached.
 //!
-//! A class is a group and a number in it. Every class but those of `SeenOnce` groups has to occur at least 1,000 times
-//! in a full run.
+//! A class is a group and a number in it. Each class of the domain has to occur at least 1,000 times in a full run, each limit
+//! once. The late ones, of replies after a wish that came while data was asked, are of the wide runs alone: 1,000 times in a
+//! full one, once in a shorter one of `SHORT` scripts.
 
-/// The state of a balance when a reply arrives; the exchange states by what was asked and whether diagnosis is due.
-pub const ARRIVALS: [&str; 10] = [
+/// The state of a balance when a reply arrives; the exchange states by what was asked.
+pub const ARRIVALS: [&str; 8] = [
     "Offline",
     "WaitForParam",
     "WaitForConfig",
     "ValidateConfig",
-    "PreDataExchange",
-    "PreDataExchange, due",
-    "PreDataExchange, wish while data was asked",
-    "DataExchange",
-    "DataExchange, due",
-    "DataExchange, wish while data was asked",
+    "PreDataExchange, data asked",
+    "PreDataExchange, diagnosis asked",
+    "DataExchange, data asked",
+    "DataExchange, diagnosis asked",
 ];
+/// The same outside the domain.
+pub const LATE: [&str; 2] = ["PreDataExchange, wish while data was asked", "DataExchange, wish while data was asked"];
 pub const STATES: [&str; 6] =
     ["Offline", "WaitForParam", "WaitForConfig", "ValidateConfig", "PreDataExchange", "DataExchange"];
 /// A reply held against the rules of a diagnosis.
@@ -41,6 +42,7 @@ pub const EXTENDED: [&str; 8] = [
     "room 0, a part",
 ];
 pub const STATUSES: [u8; 9] = [0, 1, 2, 3, 8, 9, 10, 12, 13];
+const IMAGES: [&str; 2] = ["image of 0 bytes", "image of more"];
 const LENGTHS: [&str; 3] = ["right length", "too short", "too long"];
 const EVENTS: [&str; 8] =
     ["none", "Online", "Configured", "ConfigError", "ParameterError", "DataExchanged", "Diagnostics", "Offline"];
@@ -62,6 +64,11 @@ pub const VISITS: [&str; 14] = [
     "exchange: falls",
 ];
 const MOMENTS: [&str; 3] = ["nothing open", "its own request open", "another's request open"];
+
+/// From this many scripts on every class of the run has to occur often enough.
+pub const FULL: u64 = 200_000;
+/// From this many scripts on every late class has to occur in a wide run.
+pub const SHORT: u64 = 2_000;
 
 #[derive(Clone, Copy, PartialEq, Eq)]
 pub enum Group {
@@ -97,9 +104,13 @@ pub enum Group {
     SetupSent,
     Kinds,
     EachLimit,
+    LateAsDiagnosis,
+    LateExtended,
+    LateAsData,
+    LateConfirmed,
 }
 
-pub const GROUPS: [Group; 32] = [
+pub const GROUPS: [Group; 36] = [
     Group::AsDiagnosis,
     Group::Extended,
     Group::AsData,
@@ -132,10 +143,20 @@ pub const GROUPS: [Group; 32] = [
     Group::SetupSent,
     Group::Kinds,
     Group::EachLimit,
+    Group::LateAsDiagnosis,
+    Group::LateExtended,
+    Group::LateAsData,
+    Group::LateConfirmed,
 ];
 
 fn product(rows: &[&str], columns: &[&str]) -> Vec<String> {
     rows.iter().flat_map(|r| columns.iter().map(move |c| format!("{r}: {c}"))).collect()
+}
+
+fn statuses(arrivals: &[&str]) -> Vec<String> {
+    let each: Vec<String> =
+        STATUSES.iter().flat_map(|s| LENGTHS.iter().map(move |l| format!("status {s}, {l}"))).collect();
+    product(arrivals, &each.iter().map(String::as_str).collect::<Vec<_>>())
 }
 
 fn plain(labels: &[&str]) -> Vec<String> {
@@ -145,10 +166,10 @@ fn plain(labels: &[&str]) -> Vec<String> {
 impl Group {
     pub fn title(self) -> &'static str {
         match self {
-            Group::AsDiagnosis => "state and reply, as a diagnosis",
-            Group::Extended => "state and reply, extended part",
-            Group::AsData => "state and reply, status and length",
-            Group::Confirmed => "state and short confirmation, by input image",
+            Group::AsDiagnosis | Group::LateAsDiagnosis => "state and reply, as a diagnosis",
+            Group::Extended | Group::LateExtended => "state and reply, extended part",
+            Group::AsData | Group::LateAsData => "state and reply, status and length",
+            Group::Confirmed | Group::LateConfirmed => "state and short confirmation, by input image",
             Group::Faults => "in ValidateConfig, the four flags that decide",
             Group::Flags => "flags of diagnoses that were taken",
             Group::TurnEvents => "events of turns",
@@ -184,13 +205,12 @@ impl Group {
         match self {
             Group::AsDiagnosis => product(&ARRIVALS, &AS_DIAGNOSIS),
             Group::Extended => product(&ARRIVALS, &EXTENDED),
-            Group::AsData => ARRIVALS
-                .iter()
-                .flat_map(|a| {
-                    STATUSES.iter().flat_map(move |s| LENGTHS.iter().map(move |l| format!("{a}: status {s}, {l}")))
-                })
-                .collect(),
-            Group::Confirmed => product(&ARRIVALS, &["image of 0 bytes", "image of more"]),
+            Group::AsData => statuses(&ARRIVALS),
+            Group::Confirmed => product(&ARRIVALS, &IMAGES),
+            Group::LateAsDiagnosis => product(&LATE, &AS_DIAGNOSIS),
+            Group::LateExtended => product(&LATE, &EXTENDED),
+            Group::LateAsData => statuses(&LATE),
+            Group::LateConfirmed => product(&LATE, &IMAGES),
             Group::Faults => (0..16)
                 .map(|n| {
                     let flags: Vec<&str> = (0..4)
@@ -225,7 +245,7 @@ impl Group {
                 plain(&["0", "1", "2 to 9", "10 to 49", "50 to 199", "200 to 253", "254", "scripts, 200 or more"])
             }
             Group::SilentState => plain(&STATES),
-            Group::FallAfterReply => plain(&["Offline", "WaitForParam", "WaitForConfig", "exchange, due"]),
+            Group::FallAfterReply => plain(&["Offline", "WaitForParam", "WaitForConfig", "exchange, diagnosis asked"]),
             Group::FallSlot => plain(&["0", "1 to 15", "16 to 30", "31"]),
             Group::Wishes | Group::Resets => product(&STATES, &MOMENTS),
             Group::ResetTo => plain(&["a new address", "its present address"]),
@@ -282,23 +302,32 @@ impl Group {
         }
     }
 
-    /// How often each class of the group has to occur in a full run.
-    fn least(self) -> u64 {
+    /// Reached outside the domain alone.
+    fn is_late(self) -> bool {
+        matches!(self, Group::LateAsDiagnosis | Group::LateExtended | Group::LateAsData | Group::LateConfirmed)
+    }
+
+    /// How often each class of the group has to occur in a run of `n` scripts.
+    fn least(self, wide: bool, n: u64) -> u64 {
         match self {
-            Group::EachLimit => 1,
-            _ => 1_000,
+            g if g.is_late() != wide => 0,
+            Group::EachLimit if n >= FULL => 1,
+            _ if n >= FULL => 1_000,
+            _ if wide && n >= SHORT => 1,
+            _ => 0,
         }
     }
 }
 
 pub struct Classes {
+    wide: bool,
     base: Vec<usize>,
     labels: Vec<Vec<String>>,
     pub counts: Vec<u64>,
 }
 
 impl Classes {
-    pub fn new() -> Self {
+    pub fn new(wide: bool) -> Self {
         let labels: Vec<Vec<String>> = GROUPS.iter().map(|g| g.labels()).collect();
         let mut base = Vec::new();
         let mut n = 0;
@@ -307,7 +336,7 @@ impl Classes {
             base.push(n);
             n += l.len();
         }
-        Classes { base, labels, counts: vec![0; n] }
+        Classes { wide, base, labels, counts: vec![0; n] }
     }
 
     pub fn hit(&mut self, group: Group, class: usize) {
@@ -320,12 +349,22 @@ impl Classes {
         &self.counts[at..at + self.labels[group as usize].len()]
     }
 
-    /// Group, class, count and the least count asked for, of every class.
-    pub fn each(&self) -> impl Iterator<Item = (Group, &str, u64, u64)> + '_ {
-        GROUPS.iter().flat_map(move |&g| {
+    /// The groups that the run can reach.
+    fn groups(&self) -> impl Iterator<Item = Group> + '_ {
+        GROUPS.into_iter().filter(|g| self.wide || !g.is_late())
+    }
+
+    /// Group, class and count of every class that the run can reach.
+    pub fn each(&self) -> impl Iterator<Item = (Group, &str, u64)> + '_ {
+        self.groups().flat_map(move |g| {
             let labels = &self.labels[g as usize];
-            labels.iter().zip(self.of(g)).map(move |(l, &n)| (g, l.as_str(), n, g.least()))
+            labels.iter().zip(self.of(g)).map(move |(l, &n)| (g, l.as_str(), n))
         })
+    }
+
+    /// As `each`, those that a run of `n` scripts has to reach, with the least count asked for.
+    pub fn asked(&self, n: u64) -> impl Iterator<Item = (Group, &str, u64, u64)> + '_ {
+        self.each().map(move |(g, l, c)| (g, l, c, g.least(self.wide, n))).filter(|c| c.3 > 0)
     }
 
     /// How many scripts were counted.
@@ -335,7 +374,7 @@ impl Classes {
 
     /// One line a group: how many classes, and the rarest.
     pub fn print_groups(&self) {
-        for g in GROUPS {
+        for g in self.groups() {
             let counts = self.of(g);
             let (at, least) = counts.iter().enumerate().min_by_key(|&(_, n)| n).unwrap();
             println!(
@@ -352,7 +391,7 @@ impl Classes {
     pub fn write_all(&self, path: &str) -> std::io::Result<()> {
         use std::io::Write;
         let mut f = std::io::BufWriter::new(std::fs::File::create(path)?);
-        for (g, label, n, _) in self.each() {
+        for (g, label, n) in self.each() {
             writeln!(f, "{n}\t{}\t{label}", g.title())?;
         }
         f.flush()

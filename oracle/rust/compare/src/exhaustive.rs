@@ -1,9 +1,11 @@
 //! The exhaustive part: every class of reply in every state, with the unit dumped after each; then all flag words, all
-//! pairs of service access points, and all lengths with all statuses.
-use crate::classes::STATUSES;
+//! pairs of service access points, and all lengths with all statuses. Outside the domain: every class of reply where the wish
+//! came while data was asked.
+use crate::classes::{ARRIVALS, LATE, STATUSES};
 use crate::config;
 use crate::rng::Rng;
 use crate::script::{arrival, Balance, Master, Reply, Script};
+use std::ops::Range;
 
 /// Inputs, outputs, room, retry limit, and silent turns before the reply.
 const SHAPES: [(usize, usize, usize, u8, usize); 6] =
@@ -47,7 +49,7 @@ fn replies(rng: &mut Rng, inputs: usize, room: usize) -> Vec<Reply> {
 fn right(rng: &mut Rng, at: usize, inputs: usize) -> Reply {
     match at {
         1 | 2 => Reply::confirmation(),
-        4 | 7 => Reply::data(8, rng.bytes(inputs)),
+        4 | 6 => Reply::data(8, rng.bytes(inputs)),
         _ => Reply::diagnosis(8, payload(rng, 0x0400, 0)),
     }
 }
@@ -93,7 +95,7 @@ fn drive(s: &mut Script, rng: &mut Rng, wanted: usize) {
         let Some(o) = s.open() else {
             // diagnosis due: the wish comes before it is asked
             let v = s.unit().view(0);
-            if !v.due && (wanted == 5 && v.state == 4 || wanted == 8 && v.state == 5) {
+            if !v.due && (wanted == 5 && v.state == 4 || wanted == 7 && v.state == 5) {
                 s.wish(0);
             }
             turn(s);
@@ -101,7 +103,7 @@ fn drive(s: &mut Script, rng: &mut Rng, wanted: usize) {
         };
         let v = s.unit().view(o.slot);
         let at = arrival(&v, o.request);
-        if o.slot == 0 && (wanted == 6 && at == 4 || wanted == 9 && at == 7) {
+        if o.slot == 0 && (wanted == 8 && at == 4 || wanted == 9 && at == 6) {
             // the wish comes while data is asked
             s.wish(0);
             return;
@@ -131,12 +133,13 @@ fn one(s: &mut Script, rng: &mut Rng, shape: (usize, usize, usize, u8, usize), a
     }
     drive(s, rng, at);
     // silent turns before the reply; in Offline, and after a wish that came late, another request would be asked
-    if at != 0 && at != 6 && at != 9 {
+    if at != 0 && at < ARRIVALS.len() {
         for _ in 0..silent {
             turn(s);
         }
     }
     assert!(arrival(&s.unit().view(0), s.open().unwrap().request) == at);
+    s.dump();
     s.reply(r);
     s.dump();
     s.listing();
@@ -150,11 +153,11 @@ fn one(s: &mut Script, rng: &mut Rng, shape: (usize, usize, usize, u8, usize), a
     s.finish(0);
 }
 
-/// All of it, handed on script by script while `done` says to go on.
-pub fn all(s: &mut Script, mut done: impl FnMut(&mut Script) -> bool) {
+/// Every class of reply in these states of arrival, for every shape.
+fn every_reply(s: &mut Script, states: Range<usize>, done: &mut impl FnMut(&mut Script) -> bool) {
     let mut rng = Rng::new(1, 1);
     for (k, shape) in SHAPES.into_iter().enumerate() {
-        for at in 0..10 {
+        for at in states.clone() {
             for r in replies(&mut rng, shape.0, shape.2) {
                 one(s, &mut rng, shape, at, &r, k % 2);
                 if !done(s) {
@@ -163,6 +166,16 @@ pub fn all(s: &mut Script, mut done: impl FnMut(&mut Script) -> bool) {
             }
         }
     }
+}
+
+/// What stands outside the domain, handed on as `all`.
+pub fn late(s: &mut Script, mut done: impl FnMut(&mut Script) -> bool) {
+    every_reply(s, ARRIVALS.len()..ARRIVALS.len() + LATE.len(), &mut done);
+}
+
+/// All of it, handed on script by script while `done` says to go on.
+pub fn all(s: &mut Script, mut done: impl FnMut(&mut Script) -> bool) {
+    every_reply(s, 0..ARRIVALS.len(), &mut done);
     flag_words(s, &mut done);
     access_points(s, &mut done);
     lengths(s, &mut done);
@@ -224,7 +237,7 @@ fn lengths(s: &mut Script, done: &mut impl FnMut(&mut Script) -> bool) {
             let b = balance(&mut rng, 5, inputs, 2, 0);
             start(s, 1, &[b]);
             for n in 0..=246 {
-                drive(s, &mut rng, 7);
+                drive(s, &mut rng, 6);
                 let r = Reply::data(status, rng.bytes(n));
                 s.reply(&r);
                 s.inputs(0);

@@ -3,7 +3,7 @@
 use crate::classes::STATUSES;
 use crate::config;
 use crate::rng::Rng;
-use crate::script::{arrival, Balance, Master, Reply, Script, Visit};
+use crate::script::{Balance, Master, Reply, Script, Visit};
 use oracle::unit::{Request, View};
 
 #[derive(Clone, Copy, PartialEq, Eq)]
@@ -11,7 +11,7 @@ pub enum Size {
     Full,
     /// Short scripts with small images, for the stored list.
     Small,
-    /// As `Full`, with Stop and Clear, which stand outside the domain.
+    /// As `Full`, with what stands outside the domain and the original can be asked: Stop, Clear, and a wish while data is asked.
     Wide,
 }
 
@@ -252,13 +252,12 @@ fn balance(rng: &mut Rng, kind: usize, own: u8, others: &[Balance], extremes: us
     }
 }
 
-/// Whether a reply to this balance leaves its count as it is.
-fn leaves_count(v: &View, r: &Reply) -> bool {
-    match v.state {
-        0 => !r.taken(),
-        1 | 2 => r.status.is_some(),
-        3 => false,
-        _ => v.due && !r.taken(),
+/// Whether a reply to this request of this balance leaves its count as it is.
+fn leaves_count(v: &View, request: Request, r: &Reply) -> bool {
+    match request {
+        Request::Diagnosis => v.state != 3 && !r.taken(),
+        Request::Parameters | Request::Configuration => r.status.is_some(),
+        Request::Data => false,
     }
 }
 
@@ -305,6 +304,11 @@ impl Run<'_> {
         }
         match self.s.open() {
             Some(o) if o.request == Request::Data && self.wishes(o.slot) => {
+                if !self.wide {
+                    // the wish comes right after the reply
+                    self.answer();
+                    return self.s.wish(o.slot);
+                }
                 // the wish comes while data is asked
                 self.s.wish(o.slot);
                 if self.rng.chance(900) {
@@ -321,7 +325,14 @@ impl Run<'_> {
     fn wishes(&mut self, slot: usize) -> bool {
         let pre = self.s.unit().view(slot).state == 4;
         let n = if self.theme == Theme::Diagnoses { 200 } else { 80 };
+        // a wide run is after such wishes
+        let n = if self.wide { 3 * n } else { n };
         self.rng.chance(if pre { 2 * n } else { n })
+    }
+
+    /// A wish that leaves the script in the domain, where it has to stay there.
+    fn may_wish(&mut self, slot: usize) -> bool {
+        self.wide || !self.s.asks_data(slot)
     }
 
     fn slot(&mut self) -> usize {
@@ -341,7 +352,7 @@ impl Run<'_> {
             return self.add();
         }
         match self.rng.below(100) {
-            0..=27 => self.s.wish(slot),
+            0..=27 if self.may_wish(slot) => self.s.wish(slot),
             28..=35 => self.reset(slot),
             36..=41 => self.enter(),
             42..=57 => {
@@ -352,8 +363,7 @@ impl Run<'_> {
             58..=67 => self.s.inputs(slot),
             68..=75 => self.s.outputs(slot),
             76..=88 => self.s.diagnosis(slot),
-            89..=97 => self.s.listing(),
-            _ if self.rng.chance(250) => self.s.dump(),
+            98..=99 if self.rng.chance(250) => self.s.dump(),
             _ => self.s.listing(),
         }
     }
@@ -432,7 +442,7 @@ impl Run<'_> {
         let (n, limit) = (self.s.count(), self.s.limit());
         let v = self.s.unit().view(o.slot);
         if v.count > limit
-            && leaves_count(&v, &r)
+            && leaves_count(&v, o.request, &r)
             && self.rng.chance(900)
             && (0..n).any(|k| k != o.slot && self.s.unit().view(k).count > limit)
         {
@@ -446,10 +456,10 @@ impl Run<'_> {
     fn right(&mut self) -> Reply {
         let o = self.s.open().unwrap();
         let v = self.s.unit().view(o.slot);
-        match arrival(&v, o.request) {
-            1 | 2 => Reply::confirmation(),
-            4 | 7 if v.inputs == 0 && self.rng.chance(500) => Reply::confirmation(),
-            4 | 7 => {
+        match o.request {
+            Request::Parameters | Request::Configuration => Reply::confirmation(),
+            Request::Data if v.inputs == 0 && self.rng.chance(500) => Reply::confirmation(),
+            Request::Data => {
                 let status = match self.rng.below(20) {
                     0 => 10,
                     1..=3 => 0,
@@ -457,10 +467,7 @@ impl Run<'_> {
                 };
                 Reply::data(status, self.rng.bytes(v.inputs))
             }
-            at => {
-                let room = v.room;
-                self.sound_diagnosis(at == 3, room)
-            }
+            Request::Diagnosis => self.sound_diagnosis(v.state == 3, v.room),
         }
     }
 
@@ -599,7 +606,7 @@ impl Run<'_> {
             if self.rng.chance(20) {
                 let slot = self.rng.below(n);
                 match self.rng.below(3) {
-                    0 => self.s.wish(slot),
+                    0 if self.may_wish(slot) => self.s.wish(slot),
                     1 => self.s.inputs(slot),
                     _ => self.s.listing(),
                 }

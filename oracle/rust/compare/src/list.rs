@@ -37,7 +37,7 @@ fn consider(list: &mut Script, k: u64, gain: usize) {
     let counts = list.classes.counts.clone();
     generate::script(list, SEED, k, Size::Small, Marked::None);
     let each = list.classes.each().zip(&counts);
-    let brings = each.filter(|((g, _, now, _), before)| **before < wanted(*g) && now > *before);
+    let brings = each.filter(|((g, _, now), before)| **before < wanted(*g) && now > *before);
     let (brings, bytes) = (brings.count(), list.text.len() - text + list.answers.len() - answers);
     if brings == 0 || brings * 1_000 < gain * bytes {
         list.text.truncate(text);

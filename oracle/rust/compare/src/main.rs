@@ -2,14 +2,15 @@
 //!
 //!   compare run PROGRAM N SEED CLASSES   the exhaustive part, then N random scripts; every class's count to the file CLASSES
 //!   compare random PROGRAM N SEED CLASSES   the same without the exhaustive part
-//!   compare wide PROGRAM N SEED CLASSES     N random scripts with Stop and Clear, which stand outside the domain
+//!   compare wide PROGRAM N SEED CLASSES     outside the domain: every reply after a wish that came while data was asked, then N
+//!                                           random scripts with such wishes, Stop and Clear
 //!   compare lines PROGRAM N SEED            the lines of N scripts, broken: what is a call, and what gets `?`
 //!   compare list STDIN STDOUT            writes the stored list and the oracle's answers to it
 //!   compare show SEED K                  writes script K of a run to standard output
 //!   compare speed UNIT RUST              runs two programs for the measurement of speed alternately
 //!
-//! Exit status: 0 no difference, 1 a difference, 4 a class that a full run has to reach was not, 3 a script of our own
-//! that left the domain.
+//! Exit status: 0 no difference, 1 a difference, 4 a class that the run has to reach was not, 3 a script of our own that left
+//! the domain.
 mod classes;
 mod config;
 mod exhaustive;
@@ -21,15 +22,12 @@ mod script;
 mod shrink;
 mod speed;
 
-use classes::{Classes, Group};
+use classes::{Classes, Group, FULL};
 use generate::{Marked, Size};
 use script::Script;
 use std::io::{Read, Write};
 use std::process::{Command, ExitCode, Stdio};
 use std::sync::mpsc::{channel, Receiver, Sender};
-
-/// From this many scripts on every class has to occur often enough.
-const FULL: u64 = 200_000;
 
 #[derive(Clone, Copy, PartialEq, Eq)]
 enum Part {
@@ -65,11 +63,13 @@ fn make(part: Part, n: u64, seed: u64, batches: Sender<Batch>, mut program: impl
         }
         on
     };
-    if part == Part::All {
-        exhaustive::all(&mut s, |s| pass(s, 1 << 18));
+    match part {
+        Part::All => exhaustive::all(&mut s, |s| pass(s, 1 << 18)),
+        Part::Random => (),
+        Part::Wide => exhaustive::late(&mut s, |s| pass(s, 1 << 18)),
     }
     let exhaustive = (s.classes.scripts(), s.calls);
-    s.classes = Classes::new();
+    s.classes = Classes::new(part == Part::Wide);
     for k in 0..n {
         generate::script(&mut s, seed, k, size, Marked::Some);
         if !pass(&mut s, 1 << 18) {
@@ -98,21 +98,21 @@ fn show(script: &[Vec<u8>], wanted: &[u8], got: &[u8]) {
 }
 
 /// Says where the answers part: the script so far, the call, both answers; then the same with a smaller script.
-fn tell(program: &str, batch: &Batch, got: &[u8]) {
+fn tell(program: &str, wide: bool, batch: &Batch, got: &[u8]) {
     let (calls, wanted, got) = (lines(&batch.text), lines(&batch.answers), lines(got));
     let at = (0..wanted.len()).find(|&k| got.get(k) != Some(&wanted[k])).unwrap_or(0);
     let first = (0..=at).rev().find(|&k| calls[k].starts_with(b"N ")).unwrap_or(0);
     println!("compare: DIFFERENCE. The script so far:");
     let script: Vec<Vec<u8>> = calls[first..=at].iter().map(|l| l.to_vec()).collect();
     show(&script, wanted[at], got.get(at).unwrap_or(&&b"(nothing more)"[..]));
-    if let Some(small) = shrink::smallest(program, script) {
+    if let Some(small) = shrink::smallest(program, wide, script) {
         println!("compare: the same with a small script:");
         show(&small.script, &small.wanted, &small.got);
     }
 }
 
 /// Reads the program's answers and holds them to the oracle's. Answers the checksum, or None at a difference.
-fn check(name: &str, batches: Receiver<Batch>, mut program: impl Read) -> Option<(u64, u64)> {
+fn check(name: &str, wide: bool, batches: Receiver<Batch>, mut program: impl Read) -> Option<(u64, u64)> {
     let (mut sum, mut bytes) = (0xcbf2_9ce4_8422_2325u64, 0);
     let mut got = Vec::new();
     for batch in batches {
@@ -131,7 +131,7 @@ fn check(name: &str, batches: Receiver<Batch>, mut program: impl Read) -> Option
             while got.last() != Some(&b'\n') && matches!(program.read(&mut byte), Ok(1)) {
                 got.push(byte[0]);
             }
-            tell(name, &batch, &got);
+            tell(name, wide, &batch, &got);
             return None;
         }
         for &b in &got {
@@ -156,7 +156,7 @@ fn run(program: &str, part: Part, n: u64, seed: u64, counts: &str) -> ExitCode {
     let (stdin, stdout) = (child.stdin.take().unwrap(), child.stdout.take().unwrap());
     let (send, receive) = channel();
     let maker = std::thread::spawn(move || make(part, n, seed, send, stdin));
-    let same = check(program, receive, stdout);
+    let same = check(program, part == Part::Wide, receive, stdout);
     if same.is_none() {
         let _ = child.kill();
     }
@@ -176,24 +176,22 @@ fn run(program: &str, part: Part, n: u64, seed: u64, counts: &str) -> ExitCode {
     println!("  {bytes} bytes of answers, checksum {sum:016x}");
     classes.print_groups();
     classes.write_all(counts).expect("the file of counts");
-    let rare: Vec<_> = classes.each().filter(|c| c.2 < c.3).collect();
-    if n < FULL || part == Part::Wide {
-        let never = rare.iter().filter(|c| c.2 == 0).count();
-        println!(
-            "  {never} of {} classes never occurred (a run of {FULL} scripts or more asks for 1,000 each)",
-            classes.counts.len()
-        );
-        return ExitCode::SUCCESS;
+    if n < FULL {
+        let never = classes.each().filter(|c| c.2 == 0).count();
+        let (all, then) = (classes.each().count(), classes.asked(FULL).count());
+        println!("  {never} of {all} classes never occurred (a run of {FULL} scripts or more asks for {then})");
     }
+    let (often, rare): (Vec<_>, Vec<_>) = classes.asked(n).partition(|c| c.2 >= c.3);
     for (group, label, count, least) in &rare {
         println!("compare: only {count} of {least}: {}: {label}", group.title());
     }
-    if rare.is_empty() {
-        println!("  each of the {} classes occurred often enough", classes.counts.len());
-        ExitCode::SUCCESS
-    } else {
-        ExitCode::from(4)
+    if !rare.is_empty() {
+        return ExitCode::from(4);
     }
+    if !often.is_empty() {
+        println!("  each of the {} classes that the run asks for occurred often enough", often.len());
+    }
+    ExitCode::SUCCESS
 }
 
 fn main() -> ExitCode {
@@ -222,7 +220,7 @@ fn main() -> ExitCode {
                 s.answers.len()
             );
             let never: Vec<_> = s.classes.each().filter(|c| c.2 == 0 && c.0 != Group::EachLimit).collect();
-            for (group, label, _, _) in &never {
+            for (group, label, _) in &never {
                 println!("list: never: {}: {label}", group.title());
             }
             ExitCode::from(if never.is_empty() { 0 } else { 4 })

@@ -1,7 +1,7 @@
 //! A script in the making: each call is put to the oracle at once, its line and the answer are kept, and the classes
 //! that it reaches are counted. What a turn will do is worked out beforehand by the visit rules of docs/01-scope.md,
 //! so that a script can stay in the domain (one Offline at most in a turn), and held to what the oracle answers.
-use crate::classes::{Classes, Group, STATUSES};
+use crate::classes::{Classes, Group, ARRIVALS, STATUSES};
 use oracle::unit::{Open, Request, Unit, View};
 use oracle::Driver;
 
@@ -126,18 +126,13 @@ fn visit_class(state: u8, visit: Visit) -> usize {
     }
 }
 
-/// The state of a balance at the arrival of a reply: a number of `classes::ARRIVALS`.
+/// The state of a balance at the arrival of a reply: a number of `classes::ARRIVALS`, and then of `classes::LATE`.
 pub fn arrival(v: &View, request: Request) -> usize {
-    match v.state {
-        s @ 0..=3 => usize::from(s),
-        s => {
-            let kind = match (v.due, request) {
-                (false, _) => 0,
-                (true, Request::Data) => 2,
-                (true, _) => 1,
-            };
-            4 + 3 * usize::from(s - 4) + kind
-        }
+    match (v.state, request, v.due) {
+        (s @ 0..=3, _, _) => usize::from(s),
+        (s, Request::Data, false) => 4 + 2 * usize::from(s - 4),
+        (s, Request::Data, true) => ARRIVALS.len() + usize::from(s - 4),
+        (s, _, _) => 5 + 2 * usize::from(s - 4),
     }
 }
 
@@ -160,14 +155,14 @@ pub struct Script {
 }
 
 impl Script {
-    /// `wide`: Stop and Clear may be entered too.
+    /// `wide`: Stop and Clear may be entered too, and a wish may come while data is asked.
     pub fn new(wide: bool) -> Self {
         Script {
             driver: Driver::new(wide),
             text: Vec::new(),
             answers: Vec::new(),
             calls: 0,
-            classes: Classes::new(),
+            classes: Classes::new(wide),
             now: 0,
             state: 0,
             limit: 0,
@@ -185,6 +180,11 @@ impl Script {
 
     pub fn open(&mut self) -> Option<Open> {
         self.unit().open
+    }
+
+    /// Data is asked of this balance.
+    pub fn asks_data(&mut self, slot: usize) -> bool {
+        self.open().is_some_and(|o| o.slot == slot && o.request == Request::Data)
     }
 
     pub fn limit(&self) -> u8 {
@@ -538,13 +538,18 @@ impl Script {
         if completed == 1 {
             self.classes.hit(Group::Cycle, 0);
         }
-        self.count_reply(arrival(&v, o.request), &v, r);
+        self.count_reply(&v, o.request, r);
     }
 
-    fn count_reply(&mut self, at: usize, v: &View, r: &Reply) {
+    fn count_reply(&mut self, v: &View, request: Request, r: &Reply) {
+        let late = [Group::LateAsDiagnosis, Group::LateExtended, Group::LateAsData, Group::LateConfirmed];
+        let (at, [as_diagnosis, extended, as_data, confirmed]) = match arrival(v, request) {
+            at if at >= ARRIVALS.len() => (at - ARRIVALS.len(), late),
+            at => (at, [Group::AsDiagnosis, Group::Extended, Group::AsData, Group::Confirmed]),
+        };
         let Some(status) = r.status else {
-            self.classes.hit(Group::AsDiagnosis, 9 * at);
-            self.classes.hit(Group::Confirmed, 2 * at + usize::from(v.inputs > 0));
+            self.classes.hit(as_diagnosis, 9 * at);
+            self.classes.hit(confirmed, 2 * at + usize::from(v.inputs > 0));
             return;
         };
         let code = STATUSES.iter().position(|&s| s == status).expect("a status of the nine");
@@ -553,7 +558,7 @@ impl Script {
             std::cmp::Ordering::Less => 1,
             std::cmp::Ordering::Greater => 2,
         };
-        self.classes.hit(Group::AsData, 27 * at + 3 * code + length);
+        self.classes.hit(as_data, 27 * at + 3 * code + length);
         let judged = if r.saps.0 != 62 {
             1
         } else if r.saps.1 != 60 {
@@ -564,7 +569,7 @@ impl Script {
             let f = r.flags();
             [0x40, 0x04, 0x100, 0x02].iter().position(|m| f & m != 0).map_or(8, |p| 4 + p)
         };
-        self.classes.hit(Group::AsDiagnosis, 9 * at + judged);
+        self.classes.hit(as_diagnosis, 9 * at + judged);
         if judged < 4 {
             return;
         }
@@ -579,16 +584,15 @@ impl Script {
             (true, room, part) if part == room + 1 => 4,
             _ => 5,
         };
-        self.classes.hit(Group::Extended, 8 * at + class);
-        let data = at == 4 || at == 7;
-        if data || at == 1 || at == 2 {
+        self.classes.hit(extended, 8 * at + class);
+        if request != Request::Diagnosis {
             return; // here it is not judged as a diagnosis
         }
         for k in (0..16).filter(|k| flags >> k & 1 == 1) {
             self.classes.hit(Group::Flags, k);
         }
         self.classes.hit(Group::Flags, 16 + usize::from(r.payload[3] != 255));
-        if at == 3 {
+        if v.state == 3 {
             let n = (0..4).map(|k| usize::from(flags & [0x40, 0x04, 0x100, 0x02][k] != 0) << k).sum();
             self.classes.hit(Group::Faults, n);
         }

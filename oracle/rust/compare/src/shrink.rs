@@ -21,8 +21,8 @@ pub struct Shown {
 }
 
 /// Lines that the original is not asked change nothing and are left out; None where the two do not part.
-fn parts(program: &str, script: &[Vec<u8>]) -> Option<Shown> {
-    let mut driver = Driver::new(false);
+fn parts(program: &str, wide: bool, script: &[Vec<u8>]) -> Option<Shown> {
+    let mut driver = Driver::new(wide);
     let (mut kept, mut wanted) = (Vec::new(), Vec::new());
     for line in script {
         let mut answer = Vec::new();
@@ -42,8 +42,8 @@ fn parts(program: &str, script: &[Vec<u8>]) -> Option<Shown> {
 }
 
 /// Leaves out ever smaller runs of lines, as long as the two still part.
-pub fn smallest(program: &str, script: Vec<Vec<u8>>) -> Option<Shown> {
-    let mut best = parts(program, &script)?;
+pub fn smallest(program: &str, wide: bool, script: Vec<Vec<u8>>) -> Option<Shown> {
+    let mut best = parts(program, wide, &script)?;
     let mut size = best.script.len();
     while size > 0 {
         let before = best.script.len();
@@ -51,7 +51,7 @@ pub fn smallest(program: &str, script: Vec<Vec<u8>>) -> Option<Shown> {
         while from < best.script.len() {
             let to = (from + size).min(best.script.len());
             let tried: Vec<_> = best.script[..from].iter().chain(&best.script[to..]).cloned().collect();
-            match parts(program, &tried) {
+            match parts(program, wide, &tried) {
                 Some(shown) if shown.script.len() < best.script.len() => best = shown,
                 _ => from += 1,
             }

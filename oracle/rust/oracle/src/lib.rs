@@ -16,7 +16,8 @@ thread_local! {
 /// Holds the unit of the script that is running.
 pub struct Driver {
     pub unit: Option<Unit>,
-    /// Stop and Clear are judged too, though the original says `todo!()` after setting them.
+    /// Stop and Clear are judged too, though the original says `todo!()` after setting them, and wishes made while data is
+    /// asked, which the original gets when that request is closed.
     wide: bool,
     /// The original is asked whatever it can be asked, in the domain or not.
     beyond: bool,

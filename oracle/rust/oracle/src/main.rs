@@ -1,6 +1,6 @@
 //! Reads call scripts (docs/SCRIPTS.md) from standard input and writes the original's answers to standard output.
-//! With the argument `wide` it also judges Stop and Clear, which stand outside the domain of the comparison; with `beyond`
-//! it asks the original whatever it can be asked.
+//! With the argument `wide` it also judges Stop, Clear and wishes made while data is asked, which stand outside the domain of
+//! the comparison; with `beyond` it asks the original whatever it can be asked.
 use std::io::{BufRead, Write};
 
 fn main() {

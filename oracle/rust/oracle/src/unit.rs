@@ -2,7 +2,8 @@
 //! time of the last turn), and the answer to each call in the words of docs/SCRIPTS.md.
 //!
 //! Only what stands in the domain of the comparison is asked of the original; for anything else `call` answers false
-//! and changes nothing. The original knows no pools: each balance owns its images, and D puts the pools together.
+//! and changes nothing, but that a wish for a balance while data is asked of it leaves the domain until the next unit.
+//! The original knows no pools: each balance owns its images, and D puts the pools together.
 //! `beyond` the domain it is asked whatever it can be asked: only what it has no notion of is answered false.
 use crate::line::{Addition, Call, Creation, Reply};
 use profirust::dp::{
@@ -49,10 +50,10 @@ struct Added {
     off: [usize; 4],
 }
 
-/// What a turn sent, and so what a reply would answer.
+/// What a turn sent, and so what a reply would answer; D writes the number.
 #[derive(Clone, Copy, PartialEq, Eq, Debug)]
 pub enum Request {
-    Diagnosis,
+    Diagnosis = 1,
     Parameters,
     Configuration,
     Data,
@@ -63,6 +64,8 @@ pub struct Open {
     pub slot: usize,
     pub addr: u8,
     pub request: Request,
+    /// A wish was made while this data request was open, and waits until it is closed.
+    wished: bool,
 }
 
 /// What can be seen of a balance, for the generator.
@@ -92,6 +95,8 @@ pub struct Unit {
     pub last_turn: Option<u64>,
     pub open: Option<Open>,
     list: [[u8; 3]; LIST],
+    /// The run left the domain by a wish for a balance while data was asked of it.
+    left: bool,
     beyond: bool,
     /// what the payload buffer holds before a turn: 0, and beyond the domain the byte of the last F
     fill: u8,
@@ -161,6 +166,11 @@ fn sap(number: u8) -> Option<u8> {
     (number != 255).then_some(number)
 }
 
+fn request_diagnostics(p: &mut Peripheral<'static>) -> bool {
+    p.request_diagnostics();
+    true
+}
+
 /// A handle to any slot, as another master gives it out.
 fn foreign(slot: u8) -> PeripheralHandle {
     let mut other = DpMaster::new(Vec::new());
@@ -194,6 +204,7 @@ impl Unit {
             last_turn: None,
             open: None,
             list: [[0; 3]; LIST],
+            left: false,
             beyond,
             fill: 0,
         })
@@ -201,17 +212,16 @@ impl Unit {
 
     /// Makes the call; the answer goes to `out`, after the letter. False: the original is not asked this.
     pub fn call(&mut self, call: &Call, wide: bool, out: &mut Vec<u8>) -> bool {
+        if self.left {
+            return false;
+        }
         match call {
             Call::A(a) => self.add(a, out),
             Call::S(state) => self.enter(*state, wide, out),
             Call::T { now, high_prio } => self.turn(*now, *high_prio, out),
             Call::R(r) => self.reply(r, out),
             Call::X { slot, new } => self.reset(*slot, *new, out),
-            Call::Q { slot } => self.with(*slot, |p| {
-                p.request_diagnostics();
-                fields(out, &[0]);
-                true
-            }),
+            Call::Q { slot } => self.wish(*slot, wide, out),
             Call::W { slot, bytes } => self.with(*slot, |p| {
                 if p.pi_q().len() != bytes.len() {
                     return false;
@@ -259,6 +269,39 @@ impl Unit {
             None => false,
             Some(a) => f(self.dp.get_mut(a.handle)),
         }
+    }
+
+    /// A wish made while data is asked of that balance takes the run out of the domain. Where `wide`, the original gets it when
+    /// that request is closed, since it judges a reply by what is due; beyond the domain it gets it at once.
+    fn wish(&mut self, slot: u8, wide: bool, out: &mut Vec<u8>) -> bool {
+        match &mut self.open {
+            Some(o) if o.slot == usize::from(slot) && o.request == Request::Data && !self.beyond => {
+                if !wide {
+                    self.left = true;
+                    return false;
+                }
+                o.wished = true;
+            }
+            _ => {
+                if !self.with(slot, request_diagnostics) {
+                    return false;
+                }
+            }
+        }
+        fields(out, &[0]);
+        true
+    }
+
+    /// The open request is closed: a wish that waited for it is put to the original.
+    fn close(&mut self) {
+        if let Some(o) = self.open.take().filter(|o| o.wished) {
+            self.with(o.slot as u8, request_diagnostics);
+        }
+    }
+
+    /// A wish for this balance waits for its data request to be closed.
+    fn waits(&self, slot: usize) -> bool {
+        self.open.is_some_and(|o| o.slot == slot && o.wished)
     }
 
     /// A balance in another slot than `slot` has this address.
@@ -337,11 +380,11 @@ impl Unit {
         } else if now > i64::MAX as u64 || self.last_turn.is_some_and(|t| now < t) || endless {
             return false;
         }
+        self.close();
         let mut buf = vec![self.fill; if self.beyond { usize::from(u16::MAX) } else { 255 }];
         let sent = self.dp.transmit_telegram(time, &self.fdl, TelegramTx::new(&mut buf), high_prio);
         let events = self.dp.take_last_events();
         self.last_turn = Some(now);
-        self.open = None;
         let (code, slot) = events.peripheral.map_or((0, 255), |(h, e)| (event_code(e), h.peek_index()));
         // At most one Offline in a turn: the original asserts it, so the mask has one bit at most.
         let mask = if code == 7 { 1 << slot } else { 0 };
@@ -381,6 +424,7 @@ impl Unit {
                 Some(62) => Request::Configuration,
                 _ => Request::Data,
             },
+            wished: false,
         }
     }
 
@@ -406,7 +450,7 @@ impl Unit {
         let now = Instant::from_micros_const(self.last_turn.unwrap_or(0) as i64);
         self.dp.receive_reply(now, &self.fdl, r.addr, telegram);
         let events = self.dp.take_last_events();
-        self.open = None;
+        self.close();
         let (code, slot) = events.peripheral.map_or((0, 255), |(h, e)| (event_code(e), h.peek_index()));
         fields(out, &[0, events.cycle_completed.into(), code, slot.into()]);
         true
@@ -424,6 +468,7 @@ impl Unit {
         if !done {
             return false;
         }
+        // a wish that waited goes with the request: a reset leaves nothing due
         if self.open.is_some_and(|o| o.slot == usize::from(slot)) {
             self.open = None;
         }
@@ -463,7 +508,8 @@ impl Unit {
         let control = self.last_control();
         fields(out, &[state, self.last_turn.is_some().into(), self.last_turn.unwrap_or(0)]);
         fields(out, &[control.is_some().into(), control.unwrap_or(0)]);
-        fields(out, &[self.place().map_or(255, |i| i as u64), self.open.map_or(255, |o| o.slot as u64)]);
+        fields(out, &[self.place().map_or(255, |i| i as u64)]);
+        fields(out, &self.open.map_or([255, 0], |o| [o.slot as u64, o.request as u64]));
         fields(out, &self.used.map(|n| n as u64));
         let mut pools = [[0u8; ARRAY]; 4];
         for ((_, p), a) in self.dp.iter().zip(&self.added) {
@@ -484,7 +530,8 @@ impl Unit {
             assert!(o.user_parameters == a.user && o.config == a.config);
             let (flags, ident, master) = k.held.unwrap_or((0, 0, None));
             fields(out, &[h.peek_index().into(), p.address().into(), k.state.into(), k.count.into()]);
-            fields(out, &[bit_code(k.fcb).into(), k.due.into(), k.held.is_some().into()]);
+            let due = k.due || self.waits(h.peek_index().into());
+            fields(out, &[bit_code(k.fcb).into(), due.into(), k.held.is_some().into()]);
             fields(out, &[flags.into(), ident.into(), master.map_or(255, u64::from), k.ext_len as u64]);
             fields(out, &[o.ident_number.into(), o.sync_mode.into(), o.freeze_mode.into()]);
             fields(out, &[o.groups.into(), o.fail_safe.into()]);
@@ -521,6 +568,7 @@ impl Unit {
     }
 
     pub fn view(&mut self, slot: usize) -> View {
+        let waits = self.waits(slot);
         let a = &self.added[slot];
         let p = self.dp.get_mut(a.handle);
         let k = p.peek();
@@ -529,7 +577,7 @@ impl Unit {
             state: k.state,
             count: k.count,
             bit: bit_code(k.fcb),
-            due: k.due,
+            due: k.due || waits,
             held: k.held.is_some(),
             stored: k.ext_len,
             inputs: p.pi_i().len(),
