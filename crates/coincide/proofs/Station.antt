@@ -9,6 +9,8 @@ use Rattle.station.proofs.record.Station.is_live.Kinds as K·record-Station-is-
 use Rattle.station.proofs.record.Station.is_live.Reads as R·record-Station-is-live
 use Rattle.station.proofs.record.Station.is_running.Kinds as K·record-Station-is-running
 use Rattle.station.proofs.record.Station.is_running.Reads as R·record-Station-is-running
+use Rattle.station.proofs.record.Station.fallen.Kinds as K·record-Station-fallen
+use Rattle.station.proofs.record.Station.fallen.Reads as R·record-Station-fallen
 use Rattle.station.proofs.record.Station.request_diagnostics.Kinds as K·record-Station-request-diagnostics
 use Rattle.station.proofs.record.Station.request_diagnostics.Reads as R·record-Station-request-diagnostics
 use Rattle.station.proofs.record.Station.last_diagnostics.Kinds as K·record-Station-last-diagnostics
@@ -48,6 +50,9 @@ record-Station-is-live κs a z y e f p q = same p q
 
 pub record-Station-is-running : Coincide 0 K·record-Station-is-running.ps K·record-Station-is-running.r R·record-Station-is-running.Learnt (λ κs z y e f. z ≡ y)
 record-Station-is-running κs a z y e f p q = same p q
+
+pub record-Station-fallen : Coincide 0 K·record-Station-fallen.ps K·record-Station-fallen.r R·record-Station-fallen.Learnt (λ κs z y e f. z ≡ y)
+record-Station-fallen κs a z y e f p q = same p q
 
 pub record-Station-request-diagnostics : Coincide 0 K·record-Station-request-diagnostics.ps K·record-Station-request-diagnostics.r R·record-Station-request-diagnostics.Learnt (λ κs z y e f. z ≡ y)
 record-Station-request-diagnostics κs a z y e f p q = same p q

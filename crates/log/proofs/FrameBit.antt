@@ -1,10 +1,14 @@
--- The frame bit of a balance is what its notes say: First since it was added or reset, then cycled by each reply that 01 lets cycle it.
--- The idea: each row of the reply's table cycles the bit exactly when the note says so; and what a turn sends carries the bit of the balance that it goes to.
-use mathlib.Core.Path.{_≡_, refl}
-use Prim.Native.Nat.{ℕ}
+-- The frame bit of a balance is what its notes say: First since its last fall, then Low and High in turn, by each reply that cycles it.
+-- The idea: each row of the reply's table cycles the bit exactly when the note says so, or puts it to First where it is a fall; one more cycling is one step of the bit.
+-- What a turn sends carries the bit of the balance that it goes to.
+use mathlib.Core.Path.{_≡_, refl, sym, _∙_}
+use Prim.Native.Nat.{ℕ, _+_, _%_}
+use native.Mathlib.Omega.{arith}
 use mathlib.Core.Bool.{Bool, true, false, cond}
 use mathlib.Core.List.{List}
 use lib.Dec.{eqb}
+use borrow.Author.Tests.{eqb-true, eqb-false, eq-eqb, ne-eqb}
+use Rattle.parts.proofs.Laws.{by-test}
 use mathlib.Core.Option.{some, Option·none-ne-some, Option·some-injective}
 use Rattle.fdl.specs.Bits.{cycled, bitNumber, bitOf}
 use Rattle.fdl.specs.declared.telegram.FrameCountBit.{FrameCountBit}
@@ -24,10 +28,11 @@ use Rattle.master.specs.Unit.{stateIs, balancesAre}
 use Rattle.master.specs.Turn.{stepAt, sweptBy, askedIn, turnAnswer}
 use Rattle.valid.specs.Valid.{Valid}
 use Rattle.log.specs.Calls.{World, turn, turnNumber, turnStep, turnPayloadAt, step}
-use Rattle.log.specs.Notes.{Note, turnOf, slotAsked}
+use Rattle.log.specs.Notes.{Note, isError, turnOf, slotAsked}
 use Rattle.log.specs.Entries.{Entry, slotLog}
 use Rattle.log.specs.Run.{run}
-use Rattle.log.specs.Slots.{cycles, frameBit, BitTold, bitSent, SentBitTold}
+use Rattle.log.specs.Words.{cycles, bitAfter, cyclings, frameBit}
+use Rattle.log.specs.Promises.{BitTold, bitSent, SentBitTold}
 use Rattle.station.proofs.Rows.{comes-online, stays-offline, param-confirmed, param-unconfirmed, config-confirmed, config-unconfirmed, param-error, config-error, param-wanted, not-ready, is-configured, unvalidated, diagnosed, undiagnosed, data-stored, data-unused, data-denied}
 use Rattle.log.proofs.Lives.{Slot, RowOf, SlotFact, always, last-asked}
 use Rattle.log.proofs.Units.{Inv}
@@ -43,7 +48,7 @@ back High = refl
 back Inactive = refl
 
 bit-row : (s : Station) (t : Telegram) (payload : List ℕ) (n : ℕ) {k : Request} {h : Heard} → RowOf s t payload n k h
-    → bitOf (h .station .fcb) ≡ cond (cycles (some k) t payload) (cycled (bitOf (s .fcb))) (bitOf (s .fcb))
+    → bitOf (h .station .fcb) ≡ cond (isError (h .event)) First (cond (cycles (some k) t payload) (cycled (bitOf (s .fcb))) (bitOf (s .fcb)))
 unfolding withDiagnosis
 bit-row s t payload n (comes-online x e) = rw e (back _)
 bit-row s t payload n (stays-offline x e) = rw e refl
@@ -51,8 +56,8 @@ bit-row s t payload n (param-confirmed x e) = rw e (back _)
 bit-row s t payload n (param-unconfirmed x e) = rw e refl
 bit-row s t payload n (config-confirmed x e) = rw e (back _)
 bit-row s t payload n (config-unconfirmed x e) = rw e refl
-bit-row s t payload n (param-error x e a) = rw e (back _)
-bit-row s t payload n (config-error x e a b) = rw e (back _)
+bit-row s t payload n (param-error x e a) = refl
+bit-row s t payload n (config-error x e a b) = refl
 bit-row s t payload n (param-wanted x e a b c) = rw e (back _)
 bit-row s t payload n (not-ready x e a b c d) = rw e (back _)
 bit-row s t payload n (is-configured x e a b c d) = rw e (back _)
@@ -63,6 +68,24 @@ bit-row s t payload n (data-stored j x e f) = back _
 bit-row s t payload n (data-unused j x e f) = back _
 bit-row s t payload n (data-denied x e f) = back _
 
+-- ---- one cycling more
+
+bit-next : (n : ℕ) → bitAfter (n + 1) ≡ cycled (bitAfter n)
+bit-next n =
+    let more : eqb (n + 1) 0 ≡ false = ne-eqb (n + 1) 0 (λ z. omega (arith, z)) in
+    by-test (eqb n 0) (λ e. let z : n ≡ 0 = eqb-true n 0 e in rw z refl)
+    (λ e. by-test (eqb (n % 2) 1)
+    (λ o. let even : eqb ((n + 1) % 2) 1 ≡ false = ne-eqb ((n + 1) % 2) 1 (λ z. omega (arith, z, eqb-true (n % 2) 1 o)) in rw (more, e, o, even) refl)
+    (λ o. let odd : eqb ((n + 1) % 2) 1 ≡ true = eq-eqb ((n + 1) % 2) 1 (odd-after n (eqb-false (n % 2) 1 o)) in rw (more, e, o, odd) refl))
+  where
+    odd-after : (k : ℕ) → (k % 2 ≡ 1 → ⊥) → (k + 1) % 2 ≡ 1
+    odd-after k h = omega arith
+
+counted : (fell cycles : Bool) (n : ℕ) → cond fell First (cond cycles (cycled (bitAfter n)) (bitAfter n)) ≡ bitAfter (cond fell 0 (cond cycles (n + 1) n))
+counted true cycles n = refl
+counted false true n = sym (bit-next n)
+counted false false n = refl
+
 bit-fact : (limit : ℕ) → SlotFact limit (λ (x : Slot) (l : List Note). bitOf (x .balance .station .fcb) ≡ frameBit l)
 bit-fact limit =
     record {
@@ -70,10 +93,10 @@ bit-fact limit =
       on-reset = λ v i a. refl;
       on-wish = λ v i. i;
       on-sent = λ v i q e. i;
-      on-fell = λ v i e. i;
+      on-fell = λ v i e. refl;
       on-skipped = λ v i e. i;
       on-rest = λ v i. i;
-      on-reply = λ {x} v i q t payload n h o r. rw (last-asked v o, ← i) (bit-row (x .balance .station) t payload n r);
+      on-reply = λ {x} {l} v i q t payload n h o r. rw (last-asked v o) ((rw i at (bit-row (x .balance .station) t payload n r)) ∙ counted (isError (h .event)) (cycles (some q) t payload) (cyclings l));
     }
 
 pub bit-told : BitTold

@@ -17,8 +17,8 @@ use Rattle.station.specs.declared.heard.Heard.{Heard}
 use Rattle.station.specs.Record.{isRunning, withDiagnosis}
 use Rattle.station.specs.Heard.{isExchanged}
 use Rattle.log.specs.Notes.{Note, isError}
-use Rattle.log.specs.Words.{denies, fall, notEnabled}
-use Rattle.log.specs.Slots.{exchangedBy, Running, RunningTold}
+use Rattle.log.specs.Words.{denies, fall, notEnabled, exchangedBy, Running}
+use Rattle.log.specs.Promises.{RunningTold}
 use Rattle.log.proofs.Wording.{and-l, and-r, and-i, or-e, or-l, or-r}
 use Rattle.station.proofs.Rows.{comes-online, stays-offline, param-confirmed, param-unconfirmed, config-confirmed, config-unconfirmed, param-error, config-error, param-wanted, not-ready, is-configured, unvalidated, diagnosed, undiagnosed, data-stored, data-unused, data-denied}
 use Rattle.log.proofs.Lives.{Slot, RowOf, Lives, joins, moves, wishes, sends, lost, skips, rests, gets, last-asked}

@@ -5,7 +5,6 @@ pub mod Words
 pub mod Run
 pub mod Made
 pub mod Promises
-pub mod Slots
 pub mod Bench
 pub mod Life
 pub mod SecondLife

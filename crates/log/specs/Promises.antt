@@ -9,15 +9,21 @@ use mathlib.Core.List.{List, []}
 use mathlib.Core.Option.{some}
 use lib.Dec.{T, eqb, ltb}
 use Rattle.fdl.specs.declared.parameters.Parameters.{Parameters}
+use Rattle.fdl.specs.Bits.{bitOf}
+use Rattle.fdl.specs.declared.telegram.FrameCountBit.{FrameCountBit}
+use Rattle.fdl.specs.declared.telegram.FrameCountBit.the-variants.{Inactive}
 use Rattle.fdl.specs.declared.telegram.Telegram.{Telegram}
 use Rattle.station.specs.declared.state.PeripheralEvent.{PeripheralEvent}
 use Rattle.station.specs.declared.state.PeripheralEvent.the-variants.{NoEvent, Offline}
+use Rattle.station.specs.Record.{isRunning}
 use Rattle.station.specs.Heard.{isExchanged}
 use Rattle.peripheral.specs.Record.{inputImage}
 use Rattle.peripheral_set.specs.declared.PeripheralHandle.{PeripheralHandle}
 use Rattle.peripheral_set.specs.Marks.{slots}
 use Rattle.cycle.specs.declared.refusal.Lent.{Lent}
 use Rattle.cycle.specs.State.{operatingOf}
+use Rattle.answers.specs.declared.turn.Transmission.{Transmission}
+use Rattle.answers.specs.declared.turn.Transmission.the-variants.{Nothing, Control, Request as Asks}
 use Rattle.answers.specs.declared.turn.TurnAnswer.{TurnAnswer}
 use Rattle.answers.specs.Turn.{refusedTurn}
 use Rattle.master.specs.declared.unit.DpMaster.{DpMaster}
@@ -28,7 +34,7 @@ use Rattle.master.specs.Pools.{Pools, lend}
 use Rattle.log.specs.Calls.{Call, add, turn, reply, turned, World, Outcome, accepted, refusal, step}
 use Rattle.log.specs.Notes.{turnOf, eventOf, slotGiven, slotAsked, isOffline, bitSet, reportedOffline}
 use Rattle.log.specs.Entries.{Entry, target, slotLog, Frame, frameOf, occupiedIn, FirstEmpty, Moved, reached}
-use Rattle.log.specs.Words.{lastAsked, judged, bringsImage, imageOf, Due, Ready, asksData}
+use Rattle.log.specs.Words.{lastAsked, judged, bringsImage, imageOf, frameBit, Due, Ready, Running, asksData}
 use Rattle.log.specs.Run.{runBy, run, acceptedOf}
 use Rattle.log.specs.Made.{Allowed, Handed, Made}
 
@@ -124,7 +130,29 @@ MaskBy f = (u : Parameters) (pools : Pools) (cs : List Call) (time : ℕ) (high 
 abbrev pub MaskTold : Type 0
 MaskTold = MaskBy step
 
+-- ---- BIT: of every slot that the log says is occupied, the frame bit in the record is the one that the slot's log says,
+-- and so is the one in the header of every request that a turn sends to it, by the log before that turn
+
+abbrev pub BitTold : Type 0
+BitTold = (u : Parameters) (pools : Pools) (cs : List Call) (s : ℕ) → T (occupiedIn (run u pools cs .log) s)
+    → bitOf (balance (run u pools cs .world .unit) s .station .fcb) ≡ frameBit (slotLog s (run u pools cs .log))
+
+abbrev pub bitSent : Transmission → FrameCountBit
+bitSent Nothing = Inactive
+bitSent (Control header) = header .fcb
+bitSent (Asks slot k header) = header .fcb
+
+abbrev pub SentBitTold : Type 0
+SentBitTold = (u : Parameters) (pools : Pools) (cs : List Call) (time : ℕ) (high : Bool) (ns nq : ℕ) (buf : List ℕ) (s : ℕ)
+    → let a = turnOf (step (run u pools cs .world) (turn time high ns nq buf) .answer) in
+    slotAsked (a .transmission) ≡ some s → bitSent (a .transmission) ≡ frameBit (slotLog s (run u pools cs .log))
+
 -- ---- beside them
+
+-- a balance is in DataExchange exactly when the log says so
+abbrev pub RunningTold : Type 0
+RunningTold = (u : Parameters) (pools : Pools) (cs : List Call) (s : ℕ) → T (occupiedIn (run u pools cs .log) s)
+    → T (isRunning (balance (run u pools cs .world .unit) s .station)) ↔ Running (slotLog s (run u pools cs .log))
 
 -- operating state, occupied slots and place are what the log says
 abbrev pub FrameTold : Type 0

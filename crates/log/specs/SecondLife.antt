@@ -153,72 +153,72 @@ offlineTogether =
 
 abbrev pub setUpErrors : List (Call × List ℕ)
 setUpErrors =
-    -- Offline with count 0; Offline keeps the bit
-    (turnTo 11, diagnosisTo 0 7 2)
+    -- Offline with count 0; the fall put the bit to First, of the one with the event
+    (turnTo 11, diagnosisTo 0 7 1)
     -- taken: Online
     ∷ (diagnosisFrom 7 0x00 0x0C, (0 ∷ 0 ∷ 1 ∷ 0 ∷ []))
-    -- the second likewise
-    ∷ (turnTo 12, diagnosisTo 1 8 2)
+    -- and of the second, which only the mask reported
+    ∷ (turnTo 12, diagnosisTo 1 8 1)
     -- Online, cycle completed
     ∷ (diagnosisFrom 8 0x00 0x0C, (0 ∷ 1 ∷ 1 ∷ 1 ∷ []))
     -- place back
     ∷ (turnTo 13, quietTurn)
-    -- WaitForParam, the bit cycled to High
-    ∷ (turnTo 14, parametersTo 0 7 3 (0xA8 ∷ 2 ∷ 5 ∷ 11 ∷ 0x12 ∷ 0x34 ∷ 1 ∷ 0xA1 ∷ 0xA2 ∷ []))
+    -- WaitForParam, the bit cycled to Low
+    ∷ (turnTo 14, parametersTo 0 7 2 (0xA8 ∷ 2 ∷ 5 ∷ 11 ∷ 0x12 ∷ 0x34 ∷ 1 ∷ 0xA1 ∷ 0xA2 ∷ []))
     -- a short confirmation: WaitForConfig
     ∷ (replyFrom 7 ShortConfirmation [], (0 ∷ 0 ∷ 0 ∷ 255 ∷ []))
     -- the second likewise
-    ∷ (turnTo 15, parametersTo 1 8 3 (0x88 ∷ 2 ∷ 5 ∷ 11 ∷ 0x56 ∷ 0x78 ∷ 0 ∷ []))
+    ∷ (turnTo 15, parametersTo 1 8 2 (0x88 ∷ 2 ∷ 5 ∷ 11 ∷ 0x56 ∷ 0x78 ∷ 0 ∷ []))
     -- WaitForConfig
     ∷ (replyFrom 8 ShortConfirmation [], (0 ∷ 1 ∷ 0 ∷ 255 ∷ []))
     -- place back
     ∷ (turnTo 16, quietTurn)
-    -- configuration as stored; High cycles to Low
-    ∷ (turnTo 17, configurationTo 0 7 2 0x31)
+    -- configuration as stored; Low cycles to High
+    ∷ (turnTo 17, configurationTo 0 7 3 0x31)
     -- a short confirmation: ValidateConfig
     ∷ (replyFrom 7 ShortConfirmation [], (0 ∷ 0 ∷ 0 ∷ 255 ∷ []))
     -- the second likewise
-    ∷ (turnTo 18, configurationTo 1 8 2 0x10)
+    ∷ (turnTo 18, configurationTo 1 8 3 0x10)
     -- ValidateConfig
     ∷ (replyFrom 8 ShortConfirmation [], (0 ∷ 1 ∷ 0 ∷ 255 ∷ []))
     -- place back
     ∷ (turnTo 19, quietTurn)
-    -- ValidateConfig: diagnosis
-    ∷ (turnTo 20, diagnosisTo 0 7 3)
+    -- ValidateConfig: diagnosis; High cycles to Low
+    ∷ (turnTo 20, diagnosisTo 0 7 2)
     -- flags 0x0100, low byte first, neither 0x0040 nor 0x0004: WaitForParam, no event
     ∷ (diagnosisFrom 7 0x00 0x01, (0 ∷ 0 ∷ 0 ∷ 255 ∷ []))
     -- the second: diagnosis
-    ∷ (turnTo 21, diagnosisTo 1 8 3)
+    ∷ (turnTo 21, diagnosisTo 1 8 2)
     -- flags 0x0044: 0x0040 is looked at first: Offline, ParameterError
     ∷ (diagnosisFrom 8 0x44 0x00, (0 ∷ 1 ∷ 4 ∷ 1 ∷ []))
     -- place back
     ∷ (turnTo 22, quietTurn)
-    -- WaitForParam: parameters again
-    ∷ (turnTo 23, parametersTo 0 7 2 (0xA8 ∷ 2 ∷ 5 ∷ 11 ∷ 0x12 ∷ 0x34 ∷ 1 ∷ 0xA1 ∷ 0xA2 ∷ []))
+    -- WaitForParam: parameters again; 0x0100 is no fall, so the bit goes on
+    ∷ (turnTo 23, parametersTo 0 7 3 (0xA8 ∷ 2 ∷ 5 ∷ 11 ∷ 0x12 ∷ 0x34 ∷ 1 ∷ 0xA1 ∷ 0xA2 ∷ []))
     -- WaitForConfig
     ∷ (replyFrom 7 ShortConfirmation [], (0 ∷ 0 ∷ 0 ∷ 255 ∷ []))
-    -- ParameterError left it Offline with count 0: diagnosis, and no event of Offline
-    ∷ (turnTo 24, diagnosisTo 1 8 2)
+    -- ParameterError left it Offline with count 0, and the bit at First after the cycling by the same reply: diagnosis, and no event of Offline
+    ∷ (turnTo 24, diagnosisTo 1 8 1)
     -- Online
     ∷ (diagnosisFrom 8 0x00 0x0C, (0 ∷ 1 ∷ 1 ∷ 1 ∷ []))
     -- place back
     ∷ (turnTo 25, quietTurn)
     -- configuration
-    ∷ (turnTo 26, configurationTo 0 7 3 0x31)
+    ∷ (turnTo 26, configurationTo 0 7 2 0x31)
     -- ValidateConfig
     ∷ (replyFrom 7 ShortConfirmation [], (0 ∷ 0 ∷ 0 ∷ 255 ∷ []))
     -- the second: parameters
-    ∷ (turnTo 27, parametersTo 1 8 3 (0x88 ∷ 2 ∷ 5 ∷ 11 ∷ 0x56 ∷ 0x78 ∷ 0 ∷ []))
+    ∷ (turnTo 27, parametersTo 1 8 2 (0x88 ∷ 2 ∷ 5 ∷ 11 ∷ 0x56 ∷ 0x78 ∷ 0 ∷ []))
     -- WaitForConfig
     ∷ (replyFrom 8 ShortConfirmation [], (0 ∷ 1 ∷ 0 ∷ 255 ∷ []))
     -- place back
     ∷ (turnTo 28, quietTurn)
     -- diagnosis
-    ∷ (turnTo 29, diagnosisTo 0 7 2)
+    ∷ (turnTo 29, diagnosisTo 0 7 3)
     -- none of the four flags: PreDataExchange, Configured
     ∷ (diagnosisFrom 7 0x00 0x0C, (0 ∷ 0 ∷ 2 ∷ 0 ∷ []))
     -- the second: configuration
-    ∷ (turnTo 30, configurationTo 1 8 2 0x10)
+    ∷ (turnTo 30, configurationTo 1 8 3 0x10)
     -- ValidateConfig
     ∷ (replyFrom 8 ShortConfirmation [], (0 ∷ 1 ∷ 0 ∷ 255 ∷ []))
     -- place back
@@ -230,53 +230,53 @@ setUpErrors =
 abbrev pub wishedWhileOpen : List (Call × List ℕ)
 wishedWhileOpen =
     -- data: no SAPs, SRD high, the output image as zeroed at adding
-    (turnTo 32, dataTo 0 7 3 (0 ∷ 0 ∷ []))
+    (turnTo 32, dataTo 0 7 2 (0 ∷ 0 ∷ []))
     -- status 3: ValidateConfig, count 0 and bit cycled, no event
     ∷ (replyFrom 7 (Data Absent Absent 3) [], (0 ∷ 0 ∷ 0 ∷ 255 ∷ []))
     -- the second: diagnosis
-    ∷ (turnTo 33, diagnosisTo 1 8 3)
+    ∷ (turnTo 33, diagnosisTo 1 8 2)
     -- flags 0x0004 without 0x0040: Offline, ConfigError
     ∷ (diagnosisFrom 8 0x04 0x00, (0 ∷ 1 ∷ 3 ∷ 1 ∷ []))
     -- place back
     ∷ (turnTo 34, quietTurn)
-    -- status 3 made it ValidateConfig: diagnosis
-    ∷ (turnTo 35, diagnosisTo 0 7 2)
+    -- status 3 made it ValidateConfig: diagnosis; it is no fall, so the bit goes on
+    ∷ (turnTo 35, diagnosisTo 0 7 3)
     -- Configured again
     ∷ (diagnosisFrom 7 0x00 0x0C, (0 ∷ 0 ∷ 2 ∷ 0 ∷ []))
-    -- the second is Offline with count 0: diagnosis
-    ∷ (turnTo 36, diagnosisTo 1 8 2)
+    -- the second is Offline with count 0, and the bit at First after ConfigError: diagnosis
+    ∷ (turnTo 36, diagnosisTo 1 8 1)
     -- it was silent: Offline otherwise, so skipped with count 0; past the last slot
     ∷ (turnTo 37, (0 ∷ 1 ∷ 0 ∷ 0 ∷ 255 ∷ []))
     -- data
-    ∷ (turnTo 38, dataTo 0 7 3 (0 ∷ 0 ∷ []))
+    ∷ (turnTo 38, dataTo 0 7 2 (0 ∷ 0 ∷ []))
     -- a wish while the data request is open
     ∷ (wish (record { slot = 0; address = 7 }), (0 ∷ []))
     -- data was asked, whatever is due: status 0 and as long as the input image: stored, DataExchange, DataExchanged
     ∷ (replyFrom 7 (Data Absent Absent 0) (11 ∷ 22 ∷ []), (0 ∷ 0 ∷ 5 ∷ 0 ∷ []))
     -- the second: count 0 again, diagnosis
-    ∷ (turnTo 39, diagnosisTo 1 8 2)
+    ∷ (turnTo 39, diagnosisTo 1 8 1)
     -- skipped
     ∷ (turnTo 40, (0 ∷ 1 ∷ 0 ∷ 0 ∷ 255 ∷ []))
     -- the wish waited for this visit: diagnosis; the reply to data cycled the bit
-    ∷ (turnTo 41, diagnosisTo 0 7 2)
+    ∷ (turnTo 41, diagnosisTo 0 7 3)
     -- taken: Diagnostics, due cleared
     ∷ (diagnosisFrom 7 0x00 0x0C, (0 ∷ 0 ∷ 6 ∷ 0 ∷ []))
     -- the second: diagnosis
-    ∷ (turnTo 42, diagnosisTo 1 8 2)
+    ∷ (turnTo 42, diagnosisTo 1 8 1)
     -- skipped
     ∷ (turnTo 43, (0 ∷ 1 ∷ 0 ∷ 0 ∷ 255 ∷ []))
     -- none due: data; taking cycled the bit
-    ∷ (turnTo 44, dataTo 0 7 3 (0 ∷ 0 ∷ []))
+    ∷ (turnTo 44, dataTo 0 7 2 (0 ∷ 0 ∷ []))
     -- another wish while the data request is open
     ∷ (wish (record { slot = 0; address = 7 }), (0 ∷ []))
     -- a diagnosis in form, but data was asked: not as long as the input image, so no event and nothing held; the bit is cycled, the wish stays due
     ∷ (diagnosisFrom 7 0x00 0x0C, (0 ∷ 0 ∷ 0 ∷ 255 ∷ []))
     -- the second: diagnosis
-    ∷ (turnTo 45, diagnosisTo 1 8 2)
+    ∷ (turnTo 45, diagnosisTo 1 8 1)
     -- skipped
     ∷ (turnTo 46, (0 ∷ 1 ∷ 0 ∷ 0 ∷ 255 ∷ []))
     -- diagnosis due
-    ∷ (turnTo 47, diagnosisTo 0 7 2)
+    ∷ (turnTo 47, diagnosisTo 0 7 3)
     -- taken, as the answer to a diagnosis request: Diagnostics
     ∷ (diagnosisFrom 7 0x00 0x0C, (0 ∷ 0 ∷ 6 ∷ 0 ∷ []))
     ∷ []

@@ -1,6 +1,6 @@
 -- Each word of one slot's log as a function of its notes alone: nothing here names a unit, a pool, a visit or `step`.
--- From 01, "Words of the log". The notes are newest first.
-use Prim.Native.Nat.{ℕ, _<_, _≤_}
+-- From 01, "Words of the log"; when a balance is in DataExchange, from "One visit and one reply". The notes are newest first.
+use Prim.Native.Nat.{ℕ, _+_, _%_, _<_, _≤_}
 use mathlib.Core.Bool.{Bool, false, not, _&&_, _||_, cond}
 use mathlib.Core.List.{List, [], _∷_}
 use mathlib.Core.Option.{Option, none, some}
@@ -8,6 +8,8 @@ use lib.Dec.{T, eqb}
 use lib.ListN.{length, drop}
 use Rattle.parts.specs.Parts.{zeros}
 use Rattle.fdl.specs.Status.{carried}
+use Rattle.fdl.specs.declared.telegram.FrameCountBit.{FrameCountBit}
+use Rattle.fdl.specs.declared.telegram.FrameCountBit.the-variants.{First, Low, High}
 use Rattle.fdl.specs.declared.telegram.Telegram.{Telegram}
 use Rattle.fdl.specs.declared.telegram.Telegram.the-variants.{ShortConfirmation, Data as DataReply, Token, Request as RequestTelegram}
 use Rattle.payloads.specs.declared.request.Request.{Request}
@@ -89,6 +91,10 @@ abbrev pub imageOf : List Note → List ℕ
 imageOf [] = []
 imageOf (x ∷ l) = ofAdded (ofReply (imageOf l) (λ t payload e. cond (isExchanged e) (carried t payload) (imageOf l)) x) (λ a. zeros (a .«input_len»)) x
 
+-- a reply cycles the bit when it answers a data request; when it acknowledges parameters or configuration; or when it is a taken diagnosis answering a diagnosis request
+abbrev pub cycles : Option Request → Telegram → List ℕ → Bool
+cycles k t payload = judged k || confirms Parameters k t || confirms Configuration k t || (isKind Diagnosis k && taken t (length payload))
+
 -- ---- of the newest note
 
 -- a fall: added, address reset, reported Offline, or event ParameterError or ConfigError
@@ -121,6 +127,30 @@ abbrev pub dueEnded : List Note → Bool
 dueEnded [] = false
 dueEnded (x ∷ l) = endsDue x
 
+-- a reply reported DataExchanged
+abbrev pub exchangedBy : List Note → Bool
+exchangedBy [] = false
+exchangedBy (x ∷ l) = ofReply false (λ t payload e. isExchanged e) x
+
+-- a reply that cycles the bit
+abbrev pub cyclesBit : List Note → Bool
+cyclesBit [] = false
+cyclesBit (x ∷ l) = ofReply false (λ t payload e. cycles (lastAsked l) t payload) x
+
+-- ---- the frame bit
+
+-- how many replies since the last fall cycled it; a reply that is a fall itself does not count
+abbrev pub cyclings : List Note → ℕ
+cyclings [] = 0
+cyclings (x ∷ l) = cond (fall (x ∷ l)) 0 (cond (cyclesBit (x ∷ l)) (cyclings l + 1) (cyclings l))
+
+-- First after none, else Low after an odd number and High after an even one
+abbrev pub bitAfter : ℕ → FrameCountBit
+bitAfter n = cond (eqb n 0) First (cond (eqb (n % 2) 1) Low High)
+
+abbrev pub frameBit : List Note → FrameCountBit
+frameBit l = bitAfter (cyclings l)
+
 -- ---- the wording by positions, which count back from the newest note
 
 -- diagnosis due: at a position there is a wish or a status 10, and neither there nor later an adding, a reset or a Diagnostics event
@@ -142,6 +172,13 @@ pub record Ready (l : List Note) : Type 0 where
   pub diagnosis : T (clean (drop d l))
   pub no-fall : (i : ℕ) → i ≤ p → T (not (fall (drop i l)))
   pub enabled : (i : ℕ) → i < d → T (not (notEnabled (drop i l)))
+
+-- in DataExchange: a reply reported DataExchanged, and after it neither a fall nor "SAP not enabled"
+pub record Running (l : List Note) : Type 0 where
+  pub since : ℕ
+  pub exchanged : T (exchangedBy (drop since l))
+  pub no-fall : (i : ℕ) → i < since → T (not (fall (drop i l)))
+  pub enabled : (i : ℕ) → i < since → T (not (notEnabled (drop i l)))
 
 -- asked for data by a turn
 abbrev pub asksData : ℕ → Transmission → Bool

@@ -19,7 +19,7 @@ use Rattle.station.specs.declared.state.PeripheralState.{PeripheralState
 use Rattle.station.specs.declared.state.PeripheralState.the-variants.{Offline, WaitForParam, WaitForConfig, ValidateConfig, PreDataExchange, DataExchange}
 use Rattle.station.specs.declared.state.PeripheralEvent.the-variants.{NoEvent, Online, Configured, ConfigError, ParameterError, DataExchanged, Diagnostics}
 use Rattle.station.specs.State.{stateOf}
-use Rattle.station.specs.Record.{inState, counting, cycling, dueIs}
+use Rattle.station.specs.Record.{inState, counting, cycling, fallen, dueIs}
 use Rattle.station.specs.Visit.{requestIn, judgedAs}
 use Rattle.station.specs.Heard.{reports, byFlags, diagnosisHeard, diagnosisMissed, acknowledgementHeard, exchangedOf, statusHeard, telegramHeard, dataHeard}
 
@@ -52,8 +52,8 @@ pub data ReplyRow (s q : Station) (t : Telegram) (took three ten : Bool) : Reque
   config-confirmed : stateOf (s .state) ≡ WaitForConfig → isShort t ≡ true → ReplyRow s q t took three ten Configuration (reports NoEvent (inState ValidateConfig (counting 0 (cycling s))))
   config-unconfirmed : stateOf (s .state) ≡ WaitForConfig → isShort t ≡ false → ReplyRow s q t took three ten Configuration (reports NoEvent s)
   -- ValidateConfig
-  param-error : stateOf (s .state) ≡ ValidateConfig → took ≡ true → flag 0x0040 (q .diag .flags) ≡ true → ReplyRow s q t took three ten Diagnosis (reports ParameterError (inState Offline (counting 0 q)))
-  config-error : stateOf (s .state) ≡ ValidateConfig → took ≡ true → flag 0x0040 (q .diag .flags) ≡ false → flag 0x0004 (q .diag .flags) ≡ true → ReplyRow s q t took three ten Diagnosis (reports ConfigError (inState Offline (counting 0 q)))
+  param-error : stateOf (s .state) ≡ ValidateConfig → took ≡ true → flag 0x0040 (q .diag .flags) ≡ true → ReplyRow s q t took three ten Diagnosis (reports ParameterError (fallen (counting 0 q)))
+  config-error : stateOf (s .state) ≡ ValidateConfig → took ≡ true → flag 0x0040 (q .diag .flags) ≡ false → flag 0x0004 (q .diag .flags) ≡ true → ReplyRow s q t took three ten Diagnosis (reports ConfigError (fallen (counting 0 q)))
   param-wanted : stateOf (s .state) ≡ ValidateConfig → took ≡ true → flag 0x0040 (q .diag .flags) ≡ false → flag 0x0004 (q .diag .flags) ≡ false → flag 0x0100 (q .diag .flags) ≡ true → ReplyRow s q t took three ten Diagnosis (reports NoEvent (inState WaitForParam (counting 0 q)))
   not-ready : stateOf (s .state) ≡ ValidateConfig → took ≡ true → flag 0x0040 (q .diag .flags) ≡ false → flag 0x0004 (q .diag .flags) ≡ false → flag 0x0100 (q .diag .flags) ≡ false → flag 0x0002 (q .diag .flags) ≡ true → ReplyRow s q t took three ten Diagnosis (reports NoEvent (counting 0 q))
   is-configured : stateOf (s .state) ≡ ValidateConfig → took ≡ true → flag 0x0040 (q .diag .flags) ≡ false → flag 0x0004 (q .diag .flags) ≡ false → flag 0x0100 (q .diag .flags) ≡ false → flag 0x0002 (q .diag .flags) ≡ false → ReplyRow s q t took three ten Diagnosis (reports Configured (inState PreDataExchange (counting 0 q)))
@@ -101,7 +101,7 @@ module _ (s q : Station) (t : Telegram) (took fits : Bool) where
 
   module _ (x : stateOf (s .state) ≡ ValidateConfig) where
     flags-row : took ≡ true → (a b c d : Bool) → flag 0x0040 (q .diag .flags) ≡ a → flag 0x0004 (q .diag .flags) ≡ b → flag 0x0100 (q .diag .flags) ≡ c → flag 0x0002 (q .diag .flags) ≡ d → let p = counting 0 q in
-        Here Diagnosis (cond a (reports ParameterError (inState Offline p)) (cond b (reports ConfigError (inState Offline p)) (cond c (reports NoEvent (inState WaitForParam p)) (cond d (reports NoEvent p) (reports Configured (inState PreDataExchange p))))))
+        Here Diagnosis (cond a (reports ParameterError (fallen p)) (cond b (reports ConfigError (fallen p)) (cond c (reports NoEvent (inState WaitForParam p)) (cond d (reports NoEvent p) (reports Configured (inState PreDataExchange p))))))
     flags-row e true b c d ea eb ec ed = param-error x e ea
     flags-row e false true c d ea eb ec ed = config-error x e ea eb
     flags-row e false false true d ea eb ec ed = param-wanted x e ea eb ec

@@ -16,9 +16,9 @@ use Rattle.station.specs.State.{stateOf}
 use Rattle.station.specs.Record.{changed}
 use Rattle.station.specs.Visit.{requestIn, requestOf, canSend, actionOf, visitedOf}
 
--- a visit changes the state and the count, and nothing else
+-- a visit changes the state, the count and the frame bit, and nothing else
 pub visit-keeps : (w : Visited) (s : Station)
-    → visitedOf w s ≡ changed s (visitedOf w s .state) (visitedOf w s .«retry_count») (s .fcb) (s .«diag_needed») (s .«diag_len») (s .diag)
+    → visitedOf w s ≡ changed s (visitedOf w s .state) (visitedOf w s .«retry_count») (visitedOf w s .fcb) (s .«diag_needed») (s .«diag_len») (s .diag)
 visit-keeps (Sends k) s = refl
 visit-keeps Drops s = refl
 visit-keeps Skips s = refl

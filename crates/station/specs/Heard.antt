@@ -13,7 +13,7 @@ use Rattle.station.specs.declared.state.PeripheralEvent.{PeripheralEvent
 use Rattle.station.specs.declared.state.PeripheralEvent.the-variants.{NoEvent, Online, Configured, ConfigError, ParameterError, DataExchanged, Diagnostics, Offline as WentOffline}
 use Rattle.station.specs.declared.state.PeripheralState.{PeripheralState}
 use Rattle.station.specs.declared.state.PeripheralState.the-variants.{Offline, WaitForParam, WaitForConfig, ValidateConfig, PreDataExchange, DataExchange}
-use Rattle.station.specs.Record.{inState, counting, cycling, dueIs}
+use Rattle.station.specs.Record.{inState, counting, cycling, fallen, dueIs}
 
 -- the station after a reply, with what it reports
 abbrev pub reports : PeripheralEvent → Station → Heard
@@ -21,11 +21,11 @@ reports e p = record { station = p; event = e }
 
 -- ---- a diagnosis was asked for
 
--- ValidateConfig, a diagnosis taken: the flags decide
+-- ValidateConfig, a diagnosis taken: the flags decide; an error is a fall, after the cycling by the same reply
 unfoldable pub byFlags : ℕ → Station → Heard
 byFlags flags p =
-    cond (flag 0x0040 flags) (reports ParameterError (inState Offline p))
-    (cond (flag 0x0004 flags) (reports ConfigError (inState Offline p))
+    cond (flag 0x0040 flags) (reports ParameterError (fallen p))
+    (cond (flag 0x0004 flags) (reports ConfigError (fallen p))
     (cond (flag 0x0100 flags) (reports NoEvent (inState WaitForParam p))
     (cond (flag 0x0002 flags) (reports NoEvent p) (reports Configured (inState PreDataExchange p)))))
 

@@ -50,6 +50,14 @@ counting n p = changed p (p .state) n (p .fcb) (p .«diag_needed») (p .«diag_l
 abbrev pub cycling : Station → Station
 cycling p = changed p (p .state) (p .«retry_count») (bitNumber (cycled (bitOf (p .fcb)))) (p .«diag_needed») (p .«diag_len») (p .diag)
 
+-- with the frame bit at First
+abbrev pub starting : Station → Station
+starting p = changed p (p .state) (p .«retry_count») (bitNumber First) (p .«diag_needed») (p .«diag_len») (p .diag)
+
+-- a fall leaves it Offline, with the frame bit at First
+abbrev pub fallen : Station → Station
+fallen p = starting (inState Offline p)
+
 -- with a diagnosis due, or none
 abbrev pub dueIs : Bool → Station → Station
 dueIs b p = changed p (p .state) (p .«retry_count») (p .fcb) b (p .«diag_len») (p .diag)

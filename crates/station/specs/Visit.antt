@@ -12,7 +12,7 @@ use Rattle.station.specs.declared.state.PeripheralState.the-variants.{Of
 use Rattle.station.specs.declared.visit.Visited.{Visited}
 use Rattle.station.specs.declared.visit.Visited.the-variants.{Sends, Drops, Skips}
 use Rattle.station.specs.State.{stateOf}
-use Rattle.station.specs.Record.{inState, counting, oneMore}
+use Rattle.station.specs.Record.{counting, fallen, oneMore}
 
 -- the request that a state is about; in the exchange states there are two, a diagnosis and data
 abbrev pub requestIn : PeripheralState → Bool → Request
@@ -46,8 +46,8 @@ actionOf limit user config p =
     cond (ltb limit (p .«retry_count»)) Drops
     (cond (canSend (stateOf (p .state)) (p .«retry_count») user config) (Sends (requestOf p)) Skips)
 
--- sending adds 1 to the count; Offline and a skip put it to 0
+-- sending adds 1 to the count; Offline, which is a fall, and a skip put it to 0
 abbrev pub visitedOf : Visited → Station → Station
 visitedOf (Sends k) p = counting (oneMore (p .«retry_count»)) p
-visitedOf Drops p = inState Offline (counting 0 p)
+visitedOf Drops p = fallen (counting 0 p)
 visitedOf Skips p = counting 0 p

@@ -2,7 +2,7 @@
 ghost use mathlib.Core.Path.{_≡_};
 ghost use mathlib.Core.Bool.{false};
 ghost use Rattle.station.specs.State.{stateOf};
-ghost use Rattle.station.specs.Record.{inState, cycling, dueIs, withDiagnosis};
+ghost use Rattle.station.specs.Record.{inState, cycling, fallen, dueIs, withDiagnosis};
 ghost use Rattle.station.specs.Heard.{reports, byFlags, diagnosisHeard, countMissed, diagnosisMissed, acknowledgementHeard, exchangedOf, statusHeard, dataHeard};
 use crate::record::Station;
 use crate::state::PeripheralEvent;
@@ -32,15 +32,26 @@ fn moved(p: Station, state: PeripheralState, event: PeripheralEvent) -> Heard
     }
 }
 
+// A station that fell, with an event.
+fn lost(p: Station, event: PeripheralEvent) -> Heard
+    ensures { λ r. ⌜ r ≡ reports event (fallen p) ⌝ }
+{
+    let q = p.fallen();
+    Heard {
+        station: q,
+        event: event,
+    }
+}
+
 // ValidateConfig, with a diagnosis taken.
 fn by_flags(flags: u16, p: Station) -> Heard
     ensures { λ r. ⌜ r ≡ byFlags flags p ⌝ }
 {
     if DiagnosticFlags::ParameterFault.is_in(flags) {
-        return moved(p, PeripheralState::Offline, PeripheralEvent::ParameterError);
+        return lost(p, PeripheralEvent::ParameterError);
     }
     if DiagnosticFlags::ConfigurationFault.is_in(flags) {
-        return moved(p, PeripheralState::Offline, PeripheralEvent::ConfigError);
+        return lost(p, PeripheralEvent::ConfigError);
     }
     if DiagnosticFlags::ParameterRequired.is_in(flags) {
         return moved(p, PeripheralState::WaitForParam, PeripheralEvent::NoEvent);

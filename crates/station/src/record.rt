@@ -1,7 +1,7 @@
 // The part of a peripheral's record that visits and replies change.
 ghost use mathlib.Core.Path.{_≡_};
 ghost use mathlib.Core.Bool.{true};
-ghost use Rattle.station.specs.Record.{newStation, dueIs, isLive, isRunning, lastDiagnosis, storedPart};
+ghost use Rattle.station.specs.Record.{newStation, fallen, dueIs, isLive, isRunning, lastDiagnosis, storedPart};
 use crate::state::PeripheralState;
 use fdl::telegram::FrameCountBit;
 use payloads::diagnosis::DiagnosticsInfo;
@@ -15,7 +15,7 @@ pub struct Station {
     pub state: u8,
     // Count of unanswered requests, 0 to the retry limit + 1; above the limit a visit reports Offline.
     pub retry_count: u8,
-    // Number of the frame bit that its next request has, 1 to 3; 0 in an empty slot.
+    // Number of the frame bit that its next request has, 1 to 3, First after a fall; 0 in an empty slot.
     pub fcb: u8,
     // Whether a diagnosis is due, by a wish or by a status 10; the exchange states then ask for it before data.
     pub diag_needed: bool,
@@ -54,6 +54,16 @@ impl Station {
         ensures { λ r. ⌜ r ≡ isRunning self ⌝ }
     {
         PeripheralState::of(self.state).is_running()
+    }
+
+    // As a fall leaves it: Offline, and the frame bit at First, since the standard starts a connection anew.
+    pub fn fallen(self) -> Station
+        ensures { λ r. ⌜ r ≡ fallen self ⌝ }
+    {
+        let mut s = self;
+        s.state = PeripheralState::Offline.number();
+        s.fcb = FrameCountBit::First.number();
+        s
     }
 
     // A wish for a diagnosis: one is due from now on.

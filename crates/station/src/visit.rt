@@ -10,7 +10,7 @@ use payloads::request::Request;
 pub enum Visited {
     // Sends this request, and adds 1 to the count.
     Sends(Request),
-    // Reports it Offline, since its count is above the limit, and puts the count to 0.
+    // Reports it Offline, since its count is above the limit, and puts the count to 0 and the frame bit to First.
     Drops,
     // Does nothing but put the count to 0: Offline with a count, or set-up data absent where needed.
     Skips,
@@ -104,9 +104,8 @@ impl Station {
                 s
             }
             Visited::Drops => {
-                s.state = PeripheralState::Offline.number();
                 s.retry_count = 0;
-                s
+                s.fallen()
             }
             Visited::Skips => {
                 s.retry_count = 0;

@@ -56,7 +56,7 @@ table =
     ∷ record {
       number = 5;
       input = record { limit = 1; control = 0; user = []; image = 0; state = ValidateConfig; calls = trialTurn 1 ∷ answers diagnosis (0x44 ∷ 0x00 ∷ 0x00 ∷ 0x02 ∷ 0x12 ∷ 0x34 ∷ []) ∷ [] };
-      expected = Turned 0 0 1 [] ∷ Heard (record { event = 4; state = 0; count = 0; bit = 2; due = false; flags = 0x0044; master = 2; image = [] }) ∷ [];
+      expected = Turned 0 0 1 [] ∷ Heard (record { event = 4; state = 0; count = 0; bit = 1; due = false; flags = 0x0044; master = 2; image = [] }) ∷ [];
     }
     -- status 10, wrong length: due, bit cycled, no event, image kept
     ∷ record {

@@ -21,7 +21,7 @@ use Rattle.station.specs.declared.state.PeripheralState.the-variants.{Offline, 
 use Rattle.station.specs.declared.visit.Visited.{Visited}
 use Rattle.station.specs.declared.visit.Visited.the-variants.{Sends, Drops, Skips}
 use Rattle.station.specs.State.{numberOf, stateOf}
-use Rattle.station.specs.Record.{newStation, inState, counting, cycling, dueIs, oneMore, withDiagnosis}
+use Rattle.station.specs.Record.{newStation, inState, counting, cycling, fallen, dueIs, oneMore, withDiagnosis}
 use Rattle.station.specs.Visit.{requestIn, judgedAs, canSend, actionOf, visitedOf}
 use Rattle.station.proofs.Visits.{drops, action-drops}
 use Rattle.station.proofs.Rows.{ReplyRow, comes-online, stays-offline, param-confirmed, param-unconfirmed, config-confirmed, config-unconfirmed, param-error, config-error, param-wanted, not-ready, is-configured, unvalidated, diagnosed, undiagnosed, data-stored, data-unused, data-denied, heardFor, reply-row}
@@ -60,6 +60,9 @@ module _ {limit room : ℕ} {s : Station} (g : Sound limit room s) where
   pub sound-zero : Sound limit room (counting 0 s)
   sound-zero = sound-count 0 (omega arith)
 
+  pub sound-fallen : Sound limit room (fallen s)
+  sound-fallen = record { state = omega arith; bitLow = omega arith; bitHigh = omega arith; count = g .count; stored = g .stored; unheld = g .unheld }
+
   pub sound-cycling : Sound limit room (cycling s)
   sound-cycling =
       let b = bit-cycles (s .fcb) (g .bitLow) (g .bitHigh) in
@@ -86,7 +89,7 @@ module _ {limit room : ℕ} {s : Station} (g : Sound limit room s) where
 
   sound-visited : (w : Visited) → (drops w ≡ false → s .«retry_count» ≤ limit) → Sound limit room (visitedOf w s)
   sound-visited (Sends k) h = sound-count g (oneMore (s .«retry_count»)) (one-more-fits (h refl))
-  sound-visited Drops h = sound-at (sound-zero g) Offline
+  sound-visited Drops h = sound-fallen (sound-zero g)
   sound-visited Skips h = sound-zero g
 
   pub sound-visit : (user config : Bool) → Sound limit room (visitedOf (actionOf limit user config s) s)
@@ -150,20 +153,21 @@ module _ (k : ℕ) (due : Bool) where
 -- what each change that a reply can make keeps
 pub record Steady (P : Station → Type 0) : Type 0 where
   pub at-ok : (x : PeripheralState) (s : Station) → P s → P (inState x s)
+  pub fallen-ok : (s : Station) → P s → P (fallen s)
   pub zero-ok : (s : Station) → P s → P (counting 0 s)
   pub cycling-ok : (s : Station) → P s → P (cycling s)
   pub due-ok : (b : Bool) (s : Station) → P s → P (dueIs b s)
 
 pub sound-steady : (limit room : ℕ) → Steady (Sound limit room)
-sound-steady limit room = record { at-ok = λ x s g. sound-at g x; zero-ok = λ s g. sound-zero g; cycling-ok = λ s g. sound-cycling g; due-ok = λ b s g. sound-due g b }
+sound-steady limit room = record { at-ok = λ x s g. sound-at g x; fallen-ok = λ s g. sound-fallen g; zero-ok = λ s g. sound-zero g; cycling-ok = λ s g. sound-cycling g; due-ok = λ b s g. sound-due g b }
 
 pub address-steady : (a : ℕ) → Steady (λ s. s .address ≡ a)
-address-steady a = record { at-ok = λ x s g. g; zero-ok = λ s g. g; cycling-ok = λ s g. g; due-ok = λ b s g. g }
+address-steady a = record { at-ok = λ x s g. g; fallen-ok = λ s g. g; zero-ok = λ s g. g; cycling-ok = λ s g. g; due-ok = λ b s g. g }
 
 -- is kept by the reply; q is the station with the diagnosis taken
 module _ (P : Station → Type 0) (c : Steady P) (q s : Station) (gq : P q) (g : P s) where
-  offline : P (inState Offline (counting 0 q))
-  offline = c .at-ok Offline (counting 0 q) (c .zero-ok q gq)
+  offline : P (fallen (counting 0 q))
+  offline = c .fallen-ok (counting 0 q) (c .zero-ok q gq)
 
   wants : P (inState WaitForParam (counting 0 q))
   wants = c .at-ok WaitForParam (counting 0 q) (c .zero-ok q gq)

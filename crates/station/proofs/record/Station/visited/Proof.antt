@@ -12,8 +12,8 @@ one-more-requires c κs = search needs
 enum-told-2 : tie.Need-enum-told-2
 enum-told-2 c = search needs
 
-number-requires : tie.Need-number-requires
-number-requires c κs = search needs
+fallen-requires : tie.Need-fallen-requires
+fallen-requires c κs = search needs
 
 enum-told-3 : tie.Need-enum-told-3
 enum-told-3 c = search needs
@@ -22,7 +22,7 @@ returns : tie.Need-returns
 returns c = simp (c .before .enum-told .given .1, c .one-more .ensures)
 
 returns-2 : tie.Need-returns-2
-returns-2 c = simp (c .before .enum-told2 .given .1, c .number .ensures)
+returns-2 c = simp (c .before .enum-told2 .given .1, c .fallen .ensures)
 
 returns-3 : tie.Need-returns-3
 returns-3 c = rw (c .enum-told3 .given .1)
@@ -34,7 +34,7 @@ visited-spec =
     enum-told
     one-more-requires
     enum-told-2
-    number-requires
+    fallen-requires
     enum-told-3
     returns
     returns-2
