@@ -86,6 +86,7 @@ pub enum Group {
     SilentState,
     FallAfterReply,
     FallSlot,
+    BitsAnew,
     Wishes,
     Resets,
     ResetTo,
@@ -110,7 +111,7 @@ pub enum Group {
     LateConfirmed,
 }
 
-pub const GROUPS: [Group; 36] = [
+pub const GROUPS: [Group; 37] = [
     Group::AsDiagnosis,
     Group::Extended,
     Group::AsData,
@@ -125,6 +126,7 @@ pub const GROUPS: [Group; 36] = [
     Group::SilentState,
     Group::FallAfterReply,
     Group::FallSlot,
+    Group::BitsAnew,
     Group::Wishes,
     Group::Resets,
     Group::ResetTo,
@@ -180,6 +182,7 @@ impl Group {
             Group::SilentState => "silence up to Offline, by state",
             Group::FallAfterReply => "Offline after a reply that left the count, by state",
             Group::FallSlot => "slot of an Offline",
+            Group::BitsAnew => "frame bit of requests after a fall",
             Group::Wishes => "wishes, by state and moment",
             Group::Resets => "resets, by state and moment",
             Group::ResetTo => "resets, by address",
@@ -247,6 +250,7 @@ impl Group {
             Group::SilentState => plain(&STATES),
             Group::FallAfterReply => plain(&["Offline", "WaitForParam", "WaitForConfig", "exchange, diagnosis asked"]),
             Group::FallSlot => plain(&["0", "1 to 15", "16 to 30", "31"]),
+            Group::BitsAnew => product(&["Offline", "ParameterError", "ConfigError"], &["First", "Low", "High"]),
             Group::Wishes | Group::Resets => product(&STATES, &MOMENTS),
             Group::ResetTo => plain(&["a new address", "its present address"]),
             Group::OperateAgain => {

@@ -150,6 +150,10 @@ pub struct Script {
     balances: Vec<Balance>,
     /// silent turns in a row, by slot; a reply ends the row
     silent: [u32; 32],
+    /// the last fall since adding or a reset, by slot: 0 Offline, 1 ParameterError, 2 ConfigError
+    fallen: [Option<usize>; 32],
+    /// replies that cycled the frame bit since the last fall, by slot
+    cycled: [u32; 32],
     long_silence: bool,
     watchdog: bool,
 }
@@ -169,6 +173,8 @@ impl Script {
             turns: 0,
             balances: Vec::new(),
             silent: [0; 32],
+            fallen: [None; 32],
+            cycled: [0; 32],
             long_silence: false,
             watchdog: false,
         }
@@ -268,6 +274,8 @@ impl Script {
         self.turns = 0;
         self.balances.clear();
         self.silent = [0; 32];
+        self.fallen = [None; 32];
+        self.cycled = [0; 32];
         self.long_silence = false;
         match m.own {
             0 => self.classes.hit(Group::Addresses, 2),
@@ -488,10 +496,19 @@ impl Script {
             }
         }
         self.silent[slot] = 0;
+        (self.fallen[slot], self.cycled[slot]) = (Some(0), 0);
     }
 
     fn sent(&mut self, o: Open) {
         let bit = self.unit().view(o.slot).bit;
+        let by_the_rules = match self.cycled[o.slot] {
+            0 => 1,
+            n if n % 2 == 1 => 2,
+            _ => 3,
+        };
+        if bit != by_the_rules {
+            self.stray("a frame bit that is not what the rules say");
+        }
         let request = match o.request {
             Request::Diagnosis => 0,
             Request::Parameters => 1,
@@ -502,6 +519,9 @@ impl Script {
             1 if request == 0 => self.classes.hit(Group::Bits, 0),
             2 | 3 => self.classes.hit(Group::Bits, 1 + 4 * usize::from(bit - 2) + request),
             _ => self.stray("a frame bit that no balance can have here"),
+        }
+        if let Some(fall) = self.fallen[o.slot] {
+            self.classes.hit(Group::BitsAnew, 3 * fall + usize::from(bit - 1));
         }
         let b = &self.balances[o.slot];
         let (row, data, most) = match o.request {
@@ -535,6 +555,17 @@ impl Script {
         let [_, completed, event, _, _] = self.ask(at);
         self.silent[o.slot] = 0;
         self.classes.hit(Group::ReplyEvents, event as usize);
+        let cycles = match o.request {
+            Request::Diagnosis => r.taken(),
+            Request::Parameters | Request::Configuration => r.status.is_none(),
+            Request::Data => true,
+        };
+        // a reply that is a fall itself does not count
+        match event {
+            4 => (self.fallen[o.slot], self.cycled[o.slot]) = (Some(1), 0),
+            3 => (self.fallen[o.slot], self.cycled[o.slot]) = (Some(2), 0),
+            _ => self.cycled[o.slot] += u32::from(cycles),
+        }
         if completed == 1 {
             self.classes.hit(Group::Cycle, 0);
         }
@@ -628,6 +659,7 @@ impl Script {
         self.simple(b'X', &[slot as u64, addr.into(), new.into()]);
         self.balances[slot].addr = new;
         self.silent[slot] = 0;
+        (self.fallen[slot], self.cycled[slot]) = (None, 0);
     }
 
     pub fn write(&mut self, slot: usize, data: &[u8]) {

@@ -4,6 +4,7 @@
 //! Only what stands in the domain of the comparison is asked of the original; for anything else `call` answers false
 //! and changes nothing, but that a wish for a balance while data is asked of it leaves the domain until the next unit.
 //! The original knows no pools: each balance owns its images, and D puts the pools together.
+//! After a reported fall a balance's frame bit is this driver's, First and then cycled where the original's is.
 //! `beyond` the domain it is asked whatever it can be asked: only what it has no notion of is answered false.
 use crate::line::{Addition, Call, Creation, Reply};
 use profirust::dp::{
@@ -95,6 +96,8 @@ pub struct Unit {
     pub last_turn: Option<u64>,
     pub open: Option<Open>,
     list: [[u8; 3]; LIST],
+    /// By slot: the frame bit since a reported fall, which 01 starts anew there and the original does not.
+    anew: [Option<u8>; LIST],
     /// The run left the domain by a wish for a balance while data was asked of it.
     left: bool,
     beyond: bool,
@@ -204,6 +207,7 @@ impl Unit {
             last_turn: None,
             open: None,
             list: [[0; 3]; LIST],
+            anew: [None; LIST],
             left: false,
             beyond,
             fill: 0,
@@ -309,6 +313,31 @@ impl Unit {
         self.dp.iter().any(|(h, p)| usize::from(h.peek_index()) != slot && p.address() == addr)
     }
 
+    /// A reported Offline, ParameterError or ConfigError: 01 puts the bit to First; beyond the domain the original's own is shown.
+    fn fell(&mut self, slot: usize) {
+        if !self.beyond {
+            self.anew[slot] = Some(bit_code(FrameCountBit::First));
+        }
+    }
+
+    /// The frame bit of a balance, whose bit in the original is `own`.
+    fn bit(&self, slot: usize, own: FrameCountBit) -> u8 {
+        self.anew[slot].unwrap_or(bit_code(own))
+    }
+
+    /// The balance that is asked cycled its bit: First to Low to High to Low.
+    fn cycled(&mut self) {
+        if let Some(bit) = self.open.and_then(|o| self.anew[o.slot].as_mut()) {
+            *bit = if *bit == 2 { 3 } else { 2 };
+        }
+    }
+
+    /// The original's own bit of the balance that is asked.
+    fn asked_bit(&mut self) -> Option<u8> {
+        let slot = self.open?.slot;
+        Some(bit_code(self.dp.get_mut(self.added[slot].handle).peek().fcb))
+    }
+
     fn add(&mut self, a: &Addition, out: &mut Vec<u8>) -> bool {
         let length = |s: &Option<Vec<u8>>| s.as_ref().map_or(0, Vec::len);
         let (user, config) = (length(&a.user), length(&a.config));
@@ -388,6 +417,9 @@ impl Unit {
         let (code, slot) = events.peripheral.map_or((0, 255), |(h, e)| (event_code(e), h.peek_index()));
         // At most one Offline in a turn: the original asserts it, so the mask has one bit at most.
         let mask = if code == 7 { 1 << slot } else { 0 };
+        if code == 7 {
+            self.fell(slot.into());
+        }
         fields(out, &[0, events.cycle_completed.into(), mask, code, slot.into()]);
         let Some(sent) = sent else {
             fields(out, &[0, 0]);
@@ -406,7 +438,8 @@ impl Unit {
         let to = self.open.map_or(255, |o| o.slot as u64);
         let (dsap, ssap) = (h.dsap.unwrap_or(255), h.ssap.unwrap_or(255));
         fields(out, &[sent.pdu_len as u64, 1, h.da.into(), h.sa.into(), dsap.into(), ssap.into()]);
-        fields(out, &[fc, bit_code(fcb).into(), to]);
+        let bit = self.open.map_or(bit_code(fcb), |o| self.bit(o.slot, fcb));
+        fields(out, &[fc, bit.into(), to]);
         bytes(out, &buf[..sent.pdu_len]);
         true
     }
@@ -446,12 +479,20 @@ impl Unit {
         if !self.beyond && !self.open.is_some_and(|o| o.addr == r.addr) {
             return false;
         }
+        let before = self.asked_bit();
         // The original does not look at the time of a reply.
         let now = Instant::from_micros_const(self.last_turn.unwrap_or(0) as i64);
         self.dp.receive_reply(now, &self.fdl, r.addr, telegram);
         let events = self.dp.take_last_events();
+        // every cycle changes the original's bit, so that a change tells of one
+        if self.asked_bit() != before {
+            self.cycled();
+        }
         self.close();
         let (code, slot) = events.peripheral.map_or((0, 255), |(h, e)| (event_code(e), h.peek_index()));
+        if code == 3 || code == 4 {
+            self.fell(slot.into());
+        }
         fields(out, &[0, events.cycle_completed.into(), code, slot.into()]);
         true
     }
@@ -472,6 +513,7 @@ impl Unit {
         if self.open.is_some_and(|o| o.slot == usize::from(slot)) {
             self.open = None;
         }
+        self.anew[usize::from(slot)] = None;
         fields(out, &[0]);
         true
     }
@@ -531,7 +573,8 @@ impl Unit {
             let (flags, ident, master) = k.held.unwrap_or((0, 0, None));
             fields(out, &[h.peek_index().into(), p.address().into(), k.state.into(), k.count.into()]);
             let due = k.due || self.waits(h.peek_index().into());
-            fields(out, &[bit_code(k.fcb).into(), due.into(), k.held.is_some().into()]);
+            let bit = self.bit(h.peek_index().into(), k.fcb);
+            fields(out, &[bit.into(), due.into(), k.held.is_some().into()]);
             fields(out, &[flags.into(), ident.into(), master.map_or(255, u64::from), k.ext_len as u64]);
             fields(out, &[o.ident_number.into(), o.sync_mode.into(), o.freeze_mode.into()]);
             fields(out, &[o.groups.into(), o.fail_safe.into()]);
@@ -568,7 +611,7 @@ impl Unit {
     }
 
     pub fn view(&mut self, slot: usize) -> View {
-        let waits = self.waits(slot);
+        let (waits, anew) = (self.waits(slot), self.anew[slot]);
         let a = &self.added[slot];
         let p = self.dp.get_mut(a.handle);
         let k = p.peek();
@@ -576,7 +619,7 @@ impl Unit {
             addr: p.address(),
             state: k.state,
             count: k.count,
-            bit: bit_code(k.fcb),
+            bit: anew.unwrap_or(bit_code(k.fcb)),
             due: k.due || waits,
             held: k.held.is_some(),
             stored: k.ext_len,
