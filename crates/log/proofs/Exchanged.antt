@@ -2,7 +2,7 @@
 -- The idea: the request that is open is the one asked last, and the reply is judged as its answer; the image's range lies in the lent pool, so that only the length decides.
 use mathlib.Core.Path.{_≡_, refl, sym, ap, _∙_}
 use Prim.Native.Nat.{ℕ, _+_}
-use mathlib.Core.Bool.{Bool, true, false, _&&_, false≢true}
+use mathlib.Core.Bool.{Bool, true, false, _&&_, false≢true, and-true, or-false}
 use mathlib.Core.List.{List}
 use mathlib.Core.Option.{some}
 use lib.Dec.{eqb, leb}
@@ -31,7 +31,7 @@ use Rattle.log.specs.Words.{lastAsked, judged, bringsImage, imageOf}
 use Rattle.log.specs.Run.{run}
 use Rattle.log.specs.Promises.{Exchanged, DataTold}
 use Rattle.log.proofs.Lives.{last-asked, judged-is}
-use Rattle.log.proofs.Stations.{image-is, or-no, and-so}
+use Rattle.log.proofs.Stations.{image-is}
 use Rattle.log.proofs.Units.{Inv}
 use Rattle.log.proofs.Replying.{is-open, pool-length, there, index-is, seen, asked-here}
 use Rattle.log.proofs.Promised.{inv-run, reply-done}
@@ -47,8 +47,8 @@ asked-data Data = refl
 brought : (t : Telegram) (p : Peripheral) (payload image : List ℕ) (inputs : ℕ) → leb (p .ranges .inputs + p .ranges .«input_len») inputs ≡ true → length image ≡ p .ranges .«input_len»
     → (carriesData t && fitsImage t p (length payload) inputs) ≡ bringsImage image t payload
 unfolding fitsImage
-brought ShortConfirmation p payload image inputs e n = rw n (sym (or-no (eqb (p .ranges .«input_len») 0)))
-brought (DataReply dsap ssap c) p payload image inputs e n = rw (e, n, or-no (eqb c 10), and-so (eqb (length payload) (p .ranges .«input_len»))) refl
+brought ShortConfirmation p payload image inputs e n = rw n (sym (or-false (eqb (p .ranges .«input_len») 0)))
+brought (DataReply dsap ssap c) p payload image inputs e n = rw (e, n, or-false (eqb c 10), and-true (eqb (length payload) (p .ranges .«input_len»))) refl
 brought Token p payload image inputs e n = refl
 brought RequestTelegram p payload image inputs e n = refl
 

@@ -2,7 +2,7 @@
 -- The idea: the notes come into it as a few Bools (parameters, configuration, ready, due), and each row of the tables of visits and replies is one line.
 use mathlib.Core.Path.{_≡_, refl, sym, ap, _∙_}
 use Prim.Native.Nat.{ℕ}
-use mathlib.Core.Bool.{Bool, true, false, not, _&&_, _||_, false≢true, cond}
+use mathlib.Core.Bool.{Bool, true, false, not, _&&_, _||_, false≢true, and-false, or-false, cond}
 use mathlib.Core.List.{List}
 use mathlib.Core.Option.{Option, some}
 use lib.Dec.{T}
@@ -43,20 +43,8 @@ pub record Told (s : Station) (l : List Note) : Type 0 where
   pub in-phase : T (phase (stateOf (s .state)) (hasParam l) (hasConfig l) (ready l))
 
 -- a note that is no fall, no acknowledgement, no diagnosis and no "SAP not enabled" leaves the words as they were
-no-and : (a : Bool) → (a && false) ≡ false
-no-and true = refl
-no-and false = refl
-
-pub and-so : (a : Bool) → (a && true) ≡ a
-and-so true = refl
-and-so false = refl
-
-pub or-no : (a : Bool) → (a || false) ≡ a
-or-no true = refl
-or-no false = refl
-
 same-words : (x : PeripheralState) (hp hc rd : Bool) → T (phase x hp hc rd) → T (phase x hp (hc || (hp && false)) (rd || (hc && false)))
-same-words x hp hc rd h = rw (no-and hp, no-and hc, or-no hc, or-no rd) h
+same-words x hp hc rd h = rw (and-false hp, and-false hc, or-false hc, or-false rd) h
 
 -- ready exactly in the exchange states, and then configuration is acknowledged
 is-not : (a : Bool) → T (not a) → a ≡ false
@@ -85,10 +73,10 @@ when-due true = refl
 when-due false = refl
 
 data-when : (x : PeripheralState) (d : Bool) → isData (requestIn x d) ≡ (not d && exchanging x)
-data-when Offline d = sym (no-and (not d))
-data-when WaitForParam d = sym (no-and (not d))
-data-when WaitForConfig d = sym (no-and (not d))
-data-when ValidateConfig d = sym (no-and (not d))
+data-when Offline d = sym (and-false (not d))
+data-when WaitForParam d = sym (and-false (not d))
+data-when WaitForConfig d = sym (and-false (not d))
+data-when ValidateConfig d = sym (and-false (not d))
 data-when PreDataExchange d = when-due d
 data-when DataExchange d = when-due d
 
@@ -111,7 +99,7 @@ KeptBy h k t payload hp hc rd d = Kept h (confirms Parameters k t) (confirms Con
 
 -- not ready, and not made so
 not-yet : (hc rd : Bool) → T (not rd) → T (not (rd || (hc && false)))
-not-yet hc rd h = rw (no-and hc, or-no rd) h
+not-yet hc rd h = rw (and-false hc, or-false rd) h
 
 not-at-all : (hc rd q : Bool) → T (not hc && not rd) → T (not (rd || (hc && q)))
 not-at-all true rd q h = absurd h
