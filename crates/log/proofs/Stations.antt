@@ -72,19 +72,19 @@ when-due : (d : Bool) → isData (cond d Diagnosis Data) ≡ (not d && true)
 when-due true = refl
 when-due false = refl
 
-data-when : (x : PeripheralState) (d : Bool) → isData (requestIn x d) ≡ (not d && exchanging x)
-data-when Offline d = sym (and-false (not d))
-data-when WaitForParam d = sym (and-false (not d))
-data-when WaitForConfig d = sym (and-false (not d))
-data-when ValidateConfig d = sym (and-false (not d))
-data-when PreDataExchange d = when-due d
-data-when DataExchange d = when-due d
+wants-data : (x : PeripheralState) (d : Bool) → isData (requestIn x d) ≡ (not d && exchanging x)
+wants-data Offline d = sym (and-false (not d))
+wants-data WaitForParam d = sym (and-false (not d))
+wants-data WaitForConfig d = sym (and-false (not d))
+wants-data ValidateConfig d = sym (and-false (not d))
+wants-data PreDataExchange d = when-due d
+wants-data DataExchange d = when-due d
 
 pub asked-when : (limit : ℕ) (user config : Bool) (s : Station) (l : List Note) → Told s l → drops (actionOf limit user config s) ≡ false
     → sendsData (actionOf limit user config s) ≡ (not (dueOf l) && ready l)
 asked-when limit user config s l i f =
     let within = le-leb (s .«retry_count») limit (ltb-false limit (s .«retry_count») (sym (action-drops user config s limit) ∙ f)) in
-    action-data user config s limit ∙ rw (within, ready-is (stateOf (s .state)) (hasParam l) (hasConfig l) (ready l) (i .in-phase), ← i .due-is) (data-when (stateOf (s .state)) (s .«diag_needed»))
+    action-data user config s limit ∙ rw (within, ready-is (stateOf (s .state)) (hasParam l) (hasConfig l) (ready l) (i .in-phase), ← i .due-is) (wants-data (stateOf (s .state)) (s .«diag_needed»))
 
 -- ---- the reply
 

@@ -11,7 +11,7 @@ use station::visit::Visited;
 
 // The peripheral after a visit, and what the visit does.
 pub struct Visit {
-    // As the visit leaves it: at most its state and count differ.
+    // As the visit leaves it: at most its state, count and frame bit differ.
     pub peripheral: Peripheral,
     // Which request goes out, or that it is reported Offline, or nothing.
     pub what: Visited,

@@ -1,7 +1,7 @@
 -- The laws of the readers: each definition, case by case, over plain numbers and flags.
 -- The idea: a reader's tests are handed to these laws as equations, and what a place of the line holds is one argument.
 use mathlib.Core.Path.{_≡_, refl, sym, ap, _∙_, subst}
-use mathlib.Core.Bool.{Bool, true, false, _&&_, cond}
+use mathlib.Core.Bool.{Bool, true, false, _&&_, and-false, cond}
 use mathlib.Core.List.{List, [], _∷_}
 use Prim.Native.Nat.{ℕ, zero, suc, _+_, _-_, _*_, _≤_, _<_}
 use native.Mathlib.Numerals.{add-one}
@@ -18,10 +18,6 @@ use Rattle.script_fields.specs.Read.{wrong, right, hasAt, spaceOn, space
 use Rattle.script_fields.proofs.Laws.{next-of, none-left}
 
 -- ---- places
-
-and-no : (a : Bool) → (a && false) ≡ false
-and-no true = refl
-and-no false = refl
 
 pub has-lt : (s : List ℕ) (at b : ℕ) → hasAt s at b ≡ true → at < length s
 unfolding hasAt
@@ -145,11 +141,11 @@ module _ (s : List ℕ) (i : ℕ) where
 
   pub pair-high : 15 < hexWorth (getD s i 0) → isPair (drop i s) ≡ false
   unfolding isPair
-  pair-high h = simp (at-0, lt-leb (hexWorth (getD s i 0)) 15 h) (and-no (leb 2 (length (drop i s))))
+  pair-high h = simp (at-0, lt-leb (hexWorth (getD s i 0)) 15 h) (and-false (leb 2 (length (drop i s))))
 
   pub pair-low : 15 < hexWorth (getD s (i + 1) 0) → isPair (drop i s) ≡ false
   unfolding isPair
-  pair-low h = simp (at-1, lt-leb (hexWorth (getD s (i + 1) 0)) 15 h, and-no)
+  pair-low h = simp (at-1, lt-leb (hexWorth (getD s (i + 1) 0)) 15 h, and-false)
 
   pub pair-there : 2 ≤ length s - i → hexWorth (getD s i 0) ≤ 15 → hexWorth (getD s (i + 1) 0) ≤ 15 → isPair (drop i s) ≡ true
   unfolding isPair

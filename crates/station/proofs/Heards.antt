@@ -46,9 +46,9 @@ carriesData (Data dsap ssap status) = among status dataCodes
 carriesData Token = false
 carriesData Request = false
 
-exchanged-when : (fits : Bool) (p : Station) → isExchanged (exchangedOf fits p .event) ≡ fits
-exchanged-when true p = refl
-exchanged-when false p = refl
+image-when : (fits : Bool) (p : Station) → isExchanged (exchangedOf fits p .event) ≡ fits
+image-when true p = refl
+image-when false p = refl
 
 -- status 3 is none of them
 three-no-data : (n : ℕ) → eqb n 3 ≡ true → among n dataCodes ≡ false
@@ -57,10 +57,10 @@ three-no-data n e = let q : n ≡ 3 = eqb-true n 3 e in rw q refl
 status-when : (n : ℕ) (fits : Bool) (p : Station) → isExchanged (statusHeard n fits p .event) ≡ (among n dataCodes && fits)
 status-when n fits p =
     by-test (eqb n 3) (λ a. rw (a, three-no-data n a) refl)
-    (λ a. by-test (among n dataCodes) (λ d. rw (a, d) (exchanged-when fits _)) (λ d. rw (a, d) refl))
+    (λ a. by-test (among n dataCodes) (λ d. rw (a, d) (image-when fits _)) (λ d. rw (a, d) refl))
 
 telegram-when : (t : Telegram) (fits : Bool) (p : Station) → isExchanged (telegramHeard t fits p .event) ≡ (carriesData t && fits)
-telegram-when ShortConfirmation fits p = exchanged-when fits p
+telegram-when ShortConfirmation fits p = image-when fits p
 telegram-when (Data dsap ssap status) fits p = status-when status fits p
 telegram-when Token fits p = refl
 telegram-when Request fits p = refl
