@@ -10,7 +10,7 @@ use peripheral_set::SLOTS;
 pub enum OperatingState {
     // 0: no data exchange; a turn sends nothing.
     Stop,
-    // 1: balances are set up and data is exchanged, with zeros for all outputs.
+    // 1: balances are set up and data is exchanged, but no outputs go out: zeros, or nothing to a balance marked fail-safe.
     Clear,
     // 2: regular operation, data exchange with full inputs and outputs.
     Operate,
@@ -127,7 +127,7 @@ impl DpMasterState {
         parts::widen8(self.open_slot) < SLOTS
     }
 
-    // Whether outputs go out as zeros.
+    // Whether data requests carry no outputs.
     pub fn is_clear(self) -> bool
         ensures { λ r. ⌜ r ≡ isClear (operatingOf (self .operating)) ⌝ }
     {

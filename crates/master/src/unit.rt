@@ -116,7 +116,7 @@ impl DpMaster {
         self.enter_state(OperatingState::Stop)
     }
 
-    // As `enter_state` with Clear: data is exchanged, and every balance gets zeros.
+    // As `enter_state` with Clear: data is exchanged, and every balance gets zeros, or nothing where it is marked fail-safe.
     // Refuses: nothing.
     // Changes: as `enter_state`.
     pub fn enter_clear(self) -> DpMaster

@@ -9,12 +9,12 @@ pub struct PeripheralOptions {
     pub max_tsdr: u16,
     // Groups of the global control that it is part of, a bit each; parameter byte 6.
     pub groups: u8,
+    // Whether it supports fail-safe mode: its data request in Clear is empty, and no other request or state knows it. DECISIONS 85
+    pub fail_safe: bool,
     // Whether the parameters ask for SYNC mode (Sync_Req, 0x20); no SYNC is ever commanded.
     pub sync_mode: bool,
     // Whether the parameters ask for FREEZE mode (Freeze_Req, 0x10); no FREEZE is ever commanded.
     pub freeze_mode: bool,
-    // Whether it supports fail-safe mode; no effect: in Clear it gets zeros as all do.
-    pub fail_safe: bool,
     // Whether there are user parameters, be it 0 bytes; without them nothing is sent in WaitForParam.
     pub has_user_parameters: bool,
     // Length of the user parameters in bytes, 0 to 237; not looked at by an add. DECISIONS 28

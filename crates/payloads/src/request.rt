@@ -14,7 +14,7 @@ pub enum Request {
     Parameters,
     // 3: to check its configuration (Chk_Cfg), DSAP 62; the bytes as stored.
     Configuration,
-    // 4: to exchange data (Data_Exchange), no access points; the output image, zeros in Clear.
+    // 4: to exchange data (Data_Exchange), no access points; the output image, in Clear zeros or nothing.
     Data,
 }
 

@@ -33,10 +33,15 @@ visitOf limit p = record { peripheral = visitedBy limit p; what = visitAction li
 abbrev pub requestHeader : Request → ℕ → Peripheral → DataTelegramHeader
 requestHeader k own p = headerOf k (p .station .address) own (bitOf (p .station .fcb))
 
+-- how many zeros are a balance's Clear signal: as many bytes as its image has, and none where it is marked `fail_safe`
+abbrev pub clearLength : Bool → ℕ → ℕ
+clearLength failSafe n = cond failSafe 0 n
+
 -- diagnosis: empty; parameters: 7 bytes, then user parameters; configuration: as stored;
--- data: the output image, zeros of that length in Clear
+-- data: the output image; in Clear zeros of that length, and nothing for a balance marked `fail_safe`
 unfoldable pub payloadOf : Request → UnitParameters → Bool → Peripheral → List ℕ → List ℕ → List ℕ
 payloadOf Diagnosis u clear p setup outputs = []
 payloadOf Parameters u clear p setup outputs = paramHead u (p .options) ++ userPart p setup
 payloadOf Configuration u clear p setup outputs = configPart p setup
-payloadOf Data u clear p setup outputs = cond clear (zeros (length (outputImage p outputs))) (outputImage p outputs)
+payloadOf Data u clear p setup outputs =
+    cond clear (zeros (clearLength (p .options .«fail_safe») (length (outputImage p outputs)))) (outputImage p outputs)

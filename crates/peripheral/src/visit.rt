@@ -1,7 +1,7 @@
 // The visit that a turn makes to a peripheral.
 ghost use mathlib.Core.Path.{_≡_};
 ghost use Rattle.payloads.specs.Payload.{Written};
-ghost use Rattle.peripheral.specs.Visit.{visitOf, requestHeader, payloadOf};
+ghost use Rattle.peripheral.specs.Visit.{visitOf, requestHeader, clearLength, payloadOf};
 use crate::record::Peripheral;
 use fdl::parameters::Parameters;
 use fdl::telegram::DataTelegramHeader;
@@ -15,6 +15,16 @@ pub struct Visit {
     pub peripheral: Peripheral,
     // Which request goes out, or that it is reported Offline, or nothing.
     pub what: Visited,
+}
+
+// How many zeros a data request has in Clear, for an output image of `len` bytes.
+fn clear_len(fail_safe: bool, len: usize) -> usize
+    ensures { λ r. ⌜ r ≡ clearLength «fail_safe» len ⌝ }
+{
+    if fail_safe {
+        return 0;
+    }
+    len
 }
 
 impl Peripheral {
@@ -81,7 +91,8 @@ impl Peripheral {
             Request::Data => {
                 let image = self.pi_q(outputs);
                 if clear {
-                    return payloads::write::write_zeros(image.len(), buf);
+                    let len = clear_len(self.options.fail_safe, image.len());
+                    return payloads::write::write_zeros(len, buf);
                 }
                 payloads::write::write_bytes(image, buf)
             }

@@ -1,6 +1,6 @@
 // A bench with balances on it: the unit and its pools by value, and the calls on them.
 ghost use mathlib.Core.Path.{_≡_};
-ghost use Rattle.trial_runs.specs.Bench.{benchCreated, emptyBench, diagnosisTelegram, dataTelegram, PlacedOn, SeenOn, RepliedOn};
+ghost use Rattle.trial_runs.specs.Bench.{benchCreated, emptyBench, clearBench, diagnosisTelegram, dataTelegram, PlacedOn, SeenOn, RepliedOn};
 use answers::reply_answer::ReplyAnswer;
 use answers::turn::TurnAnswer;
 use fdl::consts::Sap;
@@ -14,6 +14,21 @@ use peripheral_set::PeripheralHandle;
 
 // What stands in every byte of the input pool before a reply.
 pub const KEPT: u8 = 7;
+
+// The pool of output images that every turn is lent: the outputs of the last two trials stand at its front.
+pub const OUTPUTS: [u8; 8] = [1, 2, 3, 4, 5, 6, 7, 8];
+
+// A balance to be added: its address, the lengths of its images, and whether it is marked fail-safe.
+pub struct Balance {
+    // Its station address.
+    pub address: u8,
+    // Bytes of its input image.
+    pub image: usize,
+    // Bytes of its output image.
+    pub outputs: usize,
+    // Whether it is marked `fail_safe`.
+    pub fail_safe: bool,
+}
 
 // The unit, and the pools that the trials look at: by value, so that a trial is a chain of calls.
 pub struct Bench {
@@ -91,9 +106,23 @@ pub fn empty(limit: u8) -> Bench
     }
 }
 
+// The bench in Clear.
+pub fn clear(b: Bench) -> Bench
+    ensures { λ r. ⌜ r ≡ clearBench b ⌝ }
+{
+    let unit = b.unit;
+    let setup = b.setup;
+    let inputs = b.inputs;
+    Bench {
+        unit: unit.enter_clear(),
+        setup: setup,
+        inputs: inputs,
+    }
+}
+
 // One balance more, with the ident and groups of the first trial.
-pub fn add(b: Bench, address: u8, image: usize, user: &[u8], config: &[u8]) -> Placed
-    ensures { λ r. ⌜ PlacedOn b address image (now (user .entry)) (now (config .entry)) r ⌝ }
+pub fn add(b: Bench, balance: Balance, user: &[u8], config: &[u8]) -> Placed
+    ensures { λ r. ⌜ PlacedOn b balance (now (user .entry)) (now (config .entry)) r ⌝ }
 {
     let options = PeripheralOptions {
         ident_number: 0x1234,
@@ -101,17 +130,17 @@ pub fn add(b: Bench, address: u8, image: usize, user: &[u8], config: &[u8]) -> P
         groups: 0,
         sync_mode: false,
         freeze_mode: false,
-        fail_safe: false,
+        fail_safe: balance.fail_safe,
         has_user_parameters: true,
         user_parameters: 0,
         has_config: true,
         config: 0,
     };
     let addition = Addition {
-        address: address,
+        address: balance.address,
         options: options,
-        input_len: image,
-        output_len: 0,
+        input_len: balance.image,
+        output_len: balance.outputs,
         room: 0,
     };
     let mut setup = b.setup;
@@ -165,13 +194,13 @@ pub fn data(status: u8) -> Telegram
     }
 }
 
-// One turn with a payload buffer full of 0xFF, so that what is not written shows.
+// One turn with the outputs of the last trials, and a payload buffer full of 0xFF, so that what is not written shows.
 pub fn turn(b: Bench, time: u64) -> Seen
     ensures { λ r. ⌜ SeenOn b time r ⌝ }
 {
     let setup = b.setup;
     let inputs = b.inputs;
-    let outputs = [0u8; 8];
+    let outputs = OUTPUTS;
     let mut payload = [0xFFu8; 244];
     let unit = b.unit;
     let t = unit.transmit_telegram(time, false, &setup, &outputs, &mut payload);

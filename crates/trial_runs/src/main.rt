@@ -1,12 +1,14 @@
-// The sixteen trial runs of document 01, one line each: its number, and "ok" or "bad".
+// The eighteen trial runs of document 01, one line each: its number, and "ok" or "bad".
 // Each compares every value that document 01 names for it.
 mod bench;
 
+use crate::bench::Balance;
 use crate::bench::Bench;
 use crate::bench::KEPT;
 use crate::bench::Placed;
 use crate::bench::Seen;
 use crate::bench::add;
+use crate::bench::clear;
 use crate::bench::created;
 use crate::bench::data;
 use crate::bench::diagnosis;
@@ -26,6 +28,9 @@ const CONTROL: u64 = 1000;
 
 // The configuration of a balance with one byte of input: one identifier byte.
 const ONE_INPUT: [u8; 1] = [0x10];
+
+// The configuration of a balance with two bytes of output: one identifier byte.
+const TWO_OUTPUTS: [u8; 1] = [0x21];
 
 // States and events by their numbers.
 const OFFLINE: u8 = 0;
@@ -122,18 +127,33 @@ fn step(b: Bench, done: u8, steps: u8) -> Bench {
     b
 }
 
-// One balance with an image of no byte or one that has answered the first `steps` requests as it should: 0 leaves it Offline, 4 in
-// PreDataExchange.
-fn raised(limit: u8, image: usize, steps: u8, user: &[u8]) -> Bench {
-    let config = parts::part(&ONE_INPUT, 0, image);
-    let added = add(empty(limit), ADDRESS, image, user, config);
-    let placed = added.bench;
+// The balance of a bench that has just been placed there, after the global control, and when it has answered the first `steps` requests
+// as it should: 0 leaves it Offline, 4 in PreDataExchange.
+fn brought(placed: Bench, steps: u8) -> Bench {
     let t = turn(placed, CONTROL);
     let first = t.bench;
     let found = step(first, 0, steps);
     let set = step(found, 1, steps);
     let configured = step(set, 2, steps);
     step(configured, 3, steps)
+}
+
+// A balance with an input image of so many bytes and no outputs.
+fn plain(address: u8, image: usize) -> Balance {
+    Balance {
+        address: address,
+        image: image,
+        outputs: 0,
+        fail_safe: false,
+    }
+}
+
+// One balance with an image of no byte or one, brought so many steps.
+fn raised(limit: u8, image: usize, steps: u8, user: &[u8]) -> Bench {
+    let config = parts::part(&ONE_INPUT, 0, image);
+    let added = add(empty(limit), plain(ADDRESS, image), user, config);
+    let placed = added.bench;
+    brought(placed, steps)
 }
 
 // The bench with bytes in the input pool that a reply may keep.
@@ -186,20 +206,20 @@ fn heard(image: usize, steps: u8, telegram: Telegram, payload: &[u8]) -> Reading
     }
 }
 
-// Whether a payload of ten bytes is this one.
-fn is_payload(payload: [u8; 244], expected: [u8; 10]) -> bool {
-    check::same(&payload[0..10], &expected)
+// Whether the payload of a turn is this one.
+fn is_payload(t: Seen, expected: &[u8]) -> bool {
+    if t.answer.len != expected.len() {
+        return false;
+    }
+    let payload = t.payload;
+    check::same(parts::part(&payload, 0, expected.len()), expected)
 }
 
 // 1: watchdog 2, 5, Tsdr 11, ident 0x1234, groups 0, user 00 01 02.
 fn parameter_bytes() -> bool {
     let expected = [0x88u8, 0x02, 0x05, 0x0B, 0x12, 0x34, 0x00, 0x00, 0x01, 0x02];
     let t = turn(raised(1, 0, 1, &[0x00u8, 0x01, 0x02]), CONTROL + 1);
-    if t.answer.len != 10 {
-        return false;
-    }
-    let payload = t.payload;
-    is_payload(payload, expected)
+    is_payload(t, &expected)
 }
 
 // 2: flags 0x0800, master 2, clean.
@@ -375,7 +395,7 @@ fn one_byte_image() -> bool {
 
 // A balance with no user parameters and no image.
 fn add_plain(b: Bench, address: u8) -> Placed {
-    add(b, address, 0, &[0u8; 0], &[0u8; 0])
+    add(b, plain(address, 0), &[0u8; 0], &[0u8; 0])
 }
 
 // The number of the add that comes after so many, all of which were done; 255 where one of them was not.
@@ -404,7 +424,7 @@ fn full_table() -> bool {
 
 // The number of an add with so many bytes of user parameters.
 fn add_with(user: &[u8]) -> u8 {
-    let placed = add(empty(1), ADDRESS, 0, user, &[0u8; 0]);
+    let placed = add(empty(1), plain(ADDRESS, 0), user, &[0u8; 0]);
     placed.refusal
 }
 
@@ -439,6 +459,39 @@ fn two_offline() -> bool {
     t.answer.offline == 3
 }
 
+// What goes out in Clear, after the global control, to a balance with the outputs 01 02.
+fn in_clear(fail_safe: bool) -> Seen {
+    let balance = Balance {
+        address: ADDRESS,
+        image: 0,
+        outputs: 2,
+        fail_safe: fail_safe,
+    };
+    let added = add(empty(1), balance, &[0u8; 0], &TWO_OUTPUTS);
+    let placed = added.bench;
+    let control = turn(clear(brought(placed, 4)), CONTROL + 1);
+    let told = control.bench;
+    turn(told, CONTROL + 2)
+}
+
+// 17: Clear, fail_safe, outputs 01 02: data request, payload empty.
+fn clear_signal() -> bool {
+    let t = in_clear(true);
+    if sent(t) != DATA {
+        return false;
+    }
+    is_payload(t, &[0u8; 0])
+}
+
+// 18: the same without fail_safe: payload 00 00.
+fn clear_zeros() -> bool {
+    let t = in_clear(false);
+    if sent(t) != DATA {
+        return false;
+    }
+    is_payload(t, &[0u8; 2])
+}
+
 fn report(number: u8, ok: bool) {
     io::print_decimal(1, number as u64);
     if ok {
@@ -465,4 +518,6 @@ fn main() {
     report(14, long_parameters());
     report(15, highest_limit());
     report(16, two_offline());
+    report(17, clear_signal());
+    report(18, clear_zeros());
 }

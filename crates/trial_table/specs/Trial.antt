@@ -1,9 +1,9 @@
 -- A trial: a balance in some state, the calls that follow, and what each of them answers.
 -- From 01, "Trial runs"; what a call does is `step` of the log, and nothing else.
-use Prim.Native.Nat.{ℕ}
+use Prim.Native.Nat.{ℕ, _/_}
 use mathlib.Core.Bool.{Bool, true, false, cond}
-use mathlib.Core.List.{List, [], _∷_}
-use lib.ListN.{take}
+use mathlib.Core.List.{List, [], _∷_, _++_}
+use lib.ListN.{take, replicate}
 use Rattle.parts.specs.Parts.{zeros}
 use Rattle.fdl.specs.declared.parameters.Parameters.{Parameters}
 use Rattle.fdl.specs.declared.telegram.Telegram.{Telegram}
@@ -22,7 +22,7 @@ use Rattle.master.specs.Pools.{Pools}
 use Rattle.log.specs.Calls.{World, Call, add, enter, turn, reply, Answer, number, added, turned, replied, refusal, accepted, Outcome as Done, step}
 use Rattle.log.specs.Run.{run}
 
--- ---- the bench of every trial: the watchdog, Tsdr, ident and groups of the first, the slot time of the eighth
+-- ---- the bench of every trial: the watchdog, Tsdr, ident and groups of the first, the slot time of the eighth, the outputs of the last two
 
 abbrev pub own : ℕ
 own = 2
@@ -30,9 +30,9 @@ own = 2
 abbrev pub address : ℕ
 address = 8
 
--- the pools are lent whole: 4 bytes of set-up data and one of input; there are no outputs, and no room for diagnosis
-abbrev pub poolsAre : List ℕ → List ℕ → Pools
-poolsAre setup inputs = record { setup = setup; inputs = inputs; outputs = []; diags = [] }
+-- the pools are lent whole: 4 bytes of set-up data, one of input and two of output; there is no room for diagnosis
+abbrev pub poolsAre : List ℕ → List ℕ → List ℕ → Pools
+poolsAre setup inputs outputs = record { setup = setup; inputs = inputs; outputs = outputs; diags = [] }
 
 abbrev pub trialParameters : ℕ → Parameters
 trialParameters limit =
@@ -40,7 +40,7 @@ trialParameters limit =
       «slot_time» = 200;
       «setup_pool» = 4;
       «input_pool» = 1;
-      «output_pool» = 0;
+      «output_pool» = 2;
       «diag_pool» = 0;
       address = own;
       «max_retry_limit» = limit;
@@ -52,13 +52,14 @@ trialParameters limit =
 
 -- ---- its calls
 
--- the configuration of a balance with an input image of no byte or one: identifier bytes that add up to it, 0x10 for one byte of input
-abbrev pub configFor : ℕ → List ℕ
-configFor image = take image (0x10 ∷ [])
+-- the configuration of a balance with an input image of no byte or one and an output image of none or two: identifier bytes that add up
+-- to them, 0x10 for one byte of input, 0x21 for two of output
+abbrev pub configFor : ℕ → ℕ → List ℕ
+configFor image outputs = take image (0x10 ∷ []) ++ take (outputs / 2) (0x21 ∷ [])
 
--- the balance, with these user parameters, and an input image of so many bytes with the configuration for it
-abbrev pub addTrial : List ℕ → ℕ → Call
-addTrial user image =
+-- the balance, with these user parameters, images of so many bytes of input and output with the configuration for them, and its mark
+abbrev pub addTrial : List ℕ → ℕ → ℕ → Bool → Call
+addTrial user image outputs failSafe =
     add
     (record {
       address = address;
@@ -69,21 +70,21 @@ addTrial user image =
             groups = 0;
             «sync_mode» = false;
             «freeze_mode» = false;
-            «fail_safe» = false;
+            «fail_safe» = failSafe;
             «has_user_parameters» = true;
             «user_parameters» = 0;
             «has_config» = true;
             config = 0;
           };
       «input_len» = image;
-      «output_len» = 0;
+      «output_len» = outputs;
       room = 0;
     })
-    user (configFor image) (record { setup = 4; inputs = 1; outputs = 0; diags = 0 })
+    user (configFor image outputs) (record { setup = 4; inputs = 1; outputs = 2; diags = 0 })
 
--- a turn at that time
+-- a turn at that time, with a payload buffer full of 0xFF, so that zeros that are written can be told from bytes that are kept
 abbrev pub trialTurn : ℕ → Call
-trialTurn time = turn time false 4 0 (zeros 244)
+trialTurn time = turn time false 4 2 (replicate 244 0xFF)
 
 -- a reply of the balance
 abbrev pub answers : Telegram → List ℕ → Call
@@ -91,25 +92,35 @@ answers t payload = reply address t payload 1 0
 
 -- ---- what goes in
 
--- retry limit; time of the last global control; user parameters; length of the input image; state that the balance is in; the calls
+-- retry limit; time of the last global control; user parameters; lengths of the input and the output image; whether the balance is marked
+-- `fail_safe`; state that it is in; the calls
 pub record Trial : Type 0 where
   pub limit : ℕ
   pub control : ℕ
   pub user : List ℕ
   pub image : ℕ
+  pub outputs : ℕ
+  pub failSafe : Bool
   pub state : PeripheralState
   pub calls : List Call
 
 -- the unit is created, the balance added, Operate entered, and the global control sent
 abbrev pub prepared : Trial → World
-prepared t = run (trialParameters (t .limit)) (poolsAre (zeros 4) (zeros 1)) (trialTurn (t .control) ∷ enter Operate ∷ addTrial (t .user) (t .image) ∷ []) .world
+prepared t =
+    run (trialParameters (t .limit)) (poolsAre (zeros 4) (zeros 1) (zeros 2))
+    (trialTurn (t .control) ∷ enter Operate ∷ addTrial (t .user) (t .image) (t .outputs) (t .failSafe) ∷ []) .world
 
 abbrev pub balanceIn : PeripheralState → Peripheral → Peripheral
 balanceIn s p = stationIs (inState s (p .station)) p
 
--- then the balance is put into its state, and a 7 into the input pool, so that an image that is kept can be told from one of zeros
+-- then the balance is put into its state, a 7 into the input pool, so that an image that is kept can be told from one of zeros, and the
+-- outputs 01 02 into the output pool
 abbrev pub startedIn : PeripheralState → World → World
-startedIn s w = record { unit = balanceIs 0 (balanceIn s (balanceAt (w .unit .peripherals) 0)) (w .unit); pools = poolsAre (w .pools .setup) (7 ∷ []) }
+startedIn s w =
+    record {
+      unit = balanceIs 0 (balanceIn s (balanceAt (w .unit .peripherals) 0)) (w .unit);
+      pools = poolsAre (w .pools .setup) (7 ∷ []) (0x01 ∷ 0x02 ∷ []);
+    }
 
 -- ---- what comes out
 

@@ -53,6 +53,9 @@ enum-told-4 c = search needs
 pi-q-requires : tie.Need-pi-q-requires
 pi-q-requires c κs = search needs
 
+clear-len-requires : tie.Need-clear-len-requires
+clear-len-requires c κs = search needs
+
 write-zeros-requires-2 : tie.Need-write-zeros-requires-2
 write-zeros-requires-2 c κs = search needs
 
@@ -63,12 +66,13 @@ returns : tie.Need-returns
 unfolding payloadOf
 returns c =
     let at-write-zeros2 = c .before .before in
-    let at-if1 = at-write-zeros2 .before .before in
+    let at-clear-len = at-write-zeros2 .before .before in
+    let at-if1 = at-clear-len .before in
     let at-pi-q = at-if1 .before in
     let at-enum-told4 = at-pi-q .before in
     let at-start = at-enum-told4 .before .before .before .before .before .before .before in
     let a = at-start .args in
-    let e : zeros (length (at-pi-q .pi-q .result .now)) ≡ payloadOf (a .kind) (a .u) (a .clear) (a .self) (a .setup .now) (a .outputs .now) = simp (at-enum-told4 .enum-told4 .given .1, at-if1 .if1 .taken, at-pi-q .pi-q .ensures .holds) in
+    let e : zeros (at-clear-len .clear-len .result) ≡ payloadOf (a .kind) (a .u) (a .clear) (a .self) (a .setup .now) (a .outputs .now) = simp (at-enum-told4 .enum-told4 .given .1, at-if1 .if1 .taken, at-clear-len .clear-len .ensures, at-pi-q .pi-q .ensures .holds) in
     written-as _ _ _ _ _ e (at-write-zeros2 .write-zeros2 .ensures)
 
 write-bytes-requires-2 : tie.Need-write-bytes-requires-2
@@ -153,6 +157,7 @@ write-payload-spec =
     write-bytes-requires
     enum-told-4
     pi-q-requires
+    clear-len-requires
     write-zeros-requires-2
     same-length
     returns
