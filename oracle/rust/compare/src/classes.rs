@@ -1,8 +1,8 @@
 //! The classes that the scripts have to reach, and how often each was reached.
 //!
 //! A class is a group and a number in it. Each class of the domain has to occur at least 1,000 times in a full run, each limit
-//! once. The late ones, of replies after a wish that came while data was asked, are of the wide runs alone: 1,000 times in a
-//! full one, once in a shorter one of `SHORT` scripts.
+//! once. The late ones, of replies after a wish that came while data was asked, and those of data asked in Clear are of the wide
+//! runs alone: 1,000 times in a full one, once in a shorter one of `SHORT` scripts.
 
 /// The state of a balance when a reply arrives; the exchange states by what was asked.
 pub const ARRIVALS: [&str; 8] = [
@@ -43,6 +43,8 @@ pub const EXTENDED: [&str; 8] = [
 ];
 pub const STATUSES: [u8; 9] = [0, 1, 2, 3, 8, 9, 10, 12, 13];
 const IMAGES: [&str; 2] = ["image of 0 bytes", "image of more"];
+/// Whom data is asked of in Clear.
+const MARKS: [&str; 2] = ["fail-safe", "not fail-safe"];
 const LENGTHS: [&str; 3] = ["right length", "too short", "too long"];
 const EVENTS: [&str; 8] =
     ["none", "Online", "Configured", "ConfigError", "ParameterError", "DataExchanged", "Diagnostics", "Offline"];
@@ -67,7 +69,7 @@ const MOMENTS: [&str; 3] = ["nothing open", "its own request open", "another's r
 
 /// From this many scripts on every class of the run has to occur often enough.
 pub const FULL: u64 = 200_000;
-/// From this many scripts on every late class has to occur in a wide run.
+/// From this many scripts on every class of the wide runs alone has to occur in one.
 pub const SHORT: u64 = 2_000;
 
 #[derive(Clone, Copy, PartialEq, Eq)]
@@ -109,9 +111,11 @@ pub enum Group {
     LateExtended,
     LateAsData,
     LateConfirmed,
+    ClearSent,
+    ClearReplies,
 }
 
-pub const GROUPS: [Group; 37] = [
+pub const GROUPS: [Group; 39] = [
     Group::AsDiagnosis,
     Group::Extended,
     Group::AsData,
@@ -149,6 +153,8 @@ pub const GROUPS: [Group; 37] = [
     Group::LateExtended,
     Group::LateAsData,
     Group::LateConfirmed,
+    Group::ClearSent,
+    Group::ClearReplies,
 ];
 
 fn product(rows: &[&str], columns: &[&str]) -> Vec<String> {
@@ -201,6 +207,8 @@ impl Group {
             Group::SetupSent => "set-up data sent",
             Group::Kinds => "scripts by kind",
             Group::EachLimit => "silence up to Offline, each limit (seen once is enough)",
+            Group::ClearSent => "data requests in Clear, by output image",
+            Group::ClearReplies => "replies to data asked in Clear, output image of more than 0 bytes",
         }
     }
 
@@ -303,18 +311,22 @@ impl Group {
             }
             Group::Kinds => plain(&["plain", "marked: configuration of other lengths"]),
             Group::EachLimit => (0..255).map(|n| n.to_string()).collect(),
+            Group::ClearSent => product(&MARKS, &IMAGES),
+            Group::ClearReplies => product(&MARKS, &["data taken", "short confirmation taken", "no event"]),
         }
     }
 
     /// Reached outside the domain alone.
-    fn is_late(self) -> bool {
-        matches!(self, Group::LateAsDiagnosis | Group::LateExtended | Group::LateAsData | Group::LateConfirmed)
+    fn is_wide(self) -> bool {
+        let late =
+            matches!(self, Group::LateAsDiagnosis | Group::LateExtended | Group::LateAsData | Group::LateConfirmed);
+        late || matches!(self, Group::ClearSent | Group::ClearReplies)
     }
 
     /// How often each class of the group has to occur in a run of `n` scripts.
     fn least(self, wide: bool, n: u64) -> u64 {
         match self {
-            g if g.is_late() != wide => 0,
+            g if g.is_wide() != wide => 0,
             Group::EachLimit if n >= FULL => 1,
             _ if n >= FULL => 1_000,
             _ if wide && n >= SHORT => 1,
@@ -355,7 +367,7 @@ impl Classes {
 
     /// The groups that the run can reach.
     fn groups(&self) -> impl Iterator<Item = Group> + '_ {
-        GROUPS.into_iter().filter(|g| self.wide || !g.is_late())
+        GROUPS.into_iter().filter(|g| self.wide || !g.is_wide())
     }
 
     /// Group, class and count of every class that the run can reach.

@@ -1,6 +1,7 @@
 //! A script in the making: each call is put to the oracle at once, its line and the answer are kept, and the classes
 //! that it reaches are counted. What a turn will do is worked out beforehand by the visit rules of docs/01-scope.md,
-//! so that a script can stay in the domain (one Offline at most in a turn), and held to what the oracle answers.
+//! so that a script can stay in the domain (one Offline at most in a turn), and held to what the oracle answers, as are the
+//! frame bit and the length of the payload.
 use crate::classes::{Classes, Group, ARRIVALS, STATUSES};
 use oracle::unit::{Open, Request, Unit, View};
 use oracle::Driver;
@@ -154,6 +155,8 @@ pub struct Script {
     fallen: [Option<usize>; 32],
     /// replies that cycled the frame bit since the last fall, by slot
     cycled: [u32; 32],
+    /// the open request is one for data that was sent in Clear
+    clear: bool,
     long_silence: bool,
     watchdog: bool,
 }
@@ -175,6 +178,7 @@ impl Script {
             silent: [0; 32],
             fallen: [None; 32],
             cycled: [0; 32],
+            clear: false,
             long_silence: false,
             watchdog: false,
         }
@@ -500,6 +504,7 @@ impl Script {
     }
 
     fn sent(&mut self, o: Open) {
+        self.check_payload(o);
         let bit = self.unit().view(o.slot).bit;
         let by_the_rules = match self.cycled[o.slot] {
             0 => 1,
@@ -542,6 +547,32 @@ impl Script {
         }
     }
 
+    /// The payload of the last turn has the length that the rules say; in Clear one of data is all zeros.
+    fn check_payload(&mut self, o: Open) {
+        let b = &self.balances[o.slot];
+        let setup = |s: &Option<Vec<u8>>| s.as_ref().map_or(0, Vec::len);
+        self.clear = o.request == Request::Data && self.state == 1;
+        let length = match o.request {
+            Request::Diagnosis => 0,
+            Request::Parameters => 7 + setup(&b.user),
+            Request::Configuration => setup(&b.config),
+            Request::Data if self.clear && b.fail_safe => 0,
+            Request::Data => b.outputs,
+        };
+        let class = 2 * usize::from(!b.fail_safe) + usize::from(b.outputs > 0);
+        let end = self.answers.len() - 1;
+        let hex = match self.answers[..end].rsplit(|&c| c == b' ').next() {
+            Some(b"-") | None => &[],
+            Some(word) => word,
+        };
+        if hex.len() != 2 * length || self.clear && hex.iter().any(|&c| c != b'0') {
+            self.stray("a payload that is not what the rules say");
+        }
+        if self.clear {
+            self.classes.hit(Group::ClearSent, class);
+        }
+    }
+
     /// Answers the open request.
     pub fn reply(&mut self, r: &Reply) {
         let o = self.open().expect("a reply to nothing");
@@ -570,6 +601,15 @@ impl Script {
             self.classes.hit(Group::Cycle, 0);
         }
         self.count_reply(&v, o.request, r);
+        if self.clear && v.outputs > 0 {
+            let mark = usize::from(!self.balances[o.slot].fail_safe);
+            let class = match (event, r.status) {
+                (5, Some(_)) => 0,
+                (5, None) => 1,
+                _ => 2,
+            };
+            self.classes.hit(Group::ClearReplies, 3 * mark + class);
+        }
     }
 
     fn count_reply(&mut self, v: &View, request: Request, r: &Reply) {

@@ -5,6 +5,7 @@
 //! and changes nothing, but that a wish for a balance while data is asked of it leaves the domain until the next unit.
 //! The original knows no pools: each balance owns its images, and D puts the pools together.
 //! After a reported fall a balance's frame bit is this driver's, First and then cycled where the original's is.
+//! In Clear the data request to a balance marked fail-safe is empty by this driver; the original is held to its zeros.
 //! `beyond` the domain it is asked whatever it can be asked: only what it has no notion of is answered false.
 use crate::line::{Addition, Call, Creation, Reply};
 use profirust::dp::{
@@ -437,11 +438,26 @@ impl Unit {
         }
         let to = self.open.map_or(255, |o| o.slot as u64);
         let (dsap, ssap) = (h.dsap.unwrap_or(255), h.ssap.unwrap_or(255));
-        fields(out, &[sent.pdu_len as u64, 1, h.da.into(), h.sa.into(), dsap.into(), ssap.into()]);
+        let payload = self.payload(&buf[..sent.pdu_len]);
+        fields(out, &[payload.len() as u64, 1, h.da.into(), h.sa.into(), dsap.into(), ssap.into()]);
         let bit = self.open.map_or(bit_code(fcb), |o| self.bit(o.slot, fcb));
         fields(out, &[fc, bit.into(), to]);
-        bytes(out, &buf[..sent.pdu_len]);
+        bytes(out, payload);
         true
+    }
+
+    /// The payload of what was sent. In Clear 01 sends a balance marked fail-safe an empty data request, the original zeros of
+    /// the image's length: it is held to them, and none is answered.
+    fn payload<'b>(&mut self, sent: &'b [u8]) -> &'b [u8] {
+        let clear = self.dp.operating_state().is_clear();
+        let Some(o) = self.open.filter(|o| clear && o.request == Request::Data) else { return sent };
+        let p = self.dp.get_mut(self.added[o.slot].handle);
+        if !p.options().fail_safe {
+            return sent;
+        }
+        let zeros = vec![0; p.pi_q().len()];
+        assert!(sent == zeros, "the original sent a fail-safe balance something else than zeros in Clear");
+        &[]
     }
 
     /// The slot that the place found, with what it was sent.
