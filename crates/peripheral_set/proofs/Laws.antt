@@ -1,7 +1,9 @@
 -- The laws of the search and of the listing, over any number of slots.
 -- The idea: a search looks at one slot and then goes on; what it passed had the other mark, and what it found has the wanted one.
+-- Slots that are passed together are passed one after the other.
 use mathlib.Core.Path.{_≡_, refl, sym, ap, _∙_}
-use mathlib.Core.Bool.{Bool, true, false, not, _&&_, cond}
+use mathlib.Core.Bool.{Bool, true, false, not, _&&_, _||_, cond}
+use mathlib.Mathlib.Data.Bool.Basic.{or-eq-false-eq-eq-false-and-eq-false as neither}
 use mathlib.Core.Logic.{_⊎_, inl, inr, ⊎-elim, by-cases}
 use mathlib.Core.List.{List, [], _∷_}
 use Prim.Native.Nat.{ℕ, zero, suc, _+_, _-_, _≤_, _<_}
@@ -42,6 +44,22 @@ module _ (none : ℕ) (want : Bool) (n : ℕ) (marks : List Bool) (i : ℕ) wher
   pub listed-none : n ≤ i → listedFrom (n - i) marks i ≡ []
   unfolding listedFrom
   listed-none l = let z : n - i ≡ 0 = omega arith in rw z refl
+
+-- ---- empty slots that a search passes together
+
+-- one of k slots from i on is occupied
+unfoldable pub anyFrom : ℕ → List Bool → ℕ → Bool
+anyFrom zero marks i = false
+anyFrom (suc k) marks i = anyFrom k marks i || getD marks (i + k) false
+
+module _ (none n : ℕ) (marks : List Bool) where
+  pub search-past : (k i : ℕ) → i + k ≤ n → anyFrom k marks i ≡ false → searchFrom none true (n - i) marks i ≡ searchFrom none true (n - (i + k)) marks (i + k)
+  unfolding anyFrom
+  search-past zero i l e = let z : i + 0 ≡ i = omega arith in rw z refl
+  search-past (suc k) i l e =
+      let both = neither (anyFrom k marks i) (getD marks (i + k) false) .0 e in
+      let z : i + suc k ≡ i + k + 1 = omega arith in
+      rw z (search-past k i (omega arith) (both .0) ∙ search-on none true n marks (i + k) (omega arith) (both .1))
 
 -- ---- what a search answers, among k slots from i on
 

@@ -13,14 +13,14 @@ returns : tie.Need-returns
 returns c =
     sym (search-none slots true slots (c .before .args .marks) (c .before .args .place + 1) (omega arith))
 
-add-search : tie.Need-add-search
-add-search c = search needs
+add-at-or-after : tie.Need-add-at-or-after
+add-at-or-after c = search needs
 
-search-requires : tie.Need-search-requires
-search-requires c κs = search needs
+at-or-after-requires : tie.Need-at-or-after-requires
+at-or-after-requires c κs = search needs
 
 returns-2 : tie.Need-returns-2
 returns-2 c = search needs
 
 pub next-after-spec : {M : Type 1} → statement M
-next-after-spec = tie.close (tie.spec returns add-search search-requires returns-2)
+next-after-spec = tie.close (tie.spec returns add-at-or-after at-or-after-requires returns-2)
