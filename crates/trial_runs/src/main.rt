@@ -127,8 +127,8 @@ fn step(b: Bench, done: u8, steps: u8) -> Bench {
     b
 }
 
-// The balance of a bench that has just been placed there, after the global control, and when it has answered the first `steps` requests
-// as it should: 0 leaves it Offline, 4 in PreDataExchange.
+// A bench on which one balance was just placed, after the global control and the first `steps` requests, each answered as it should be:
+// 0 leaves the balance Offline, 4 in PreDataExchange.
 fn brought(placed: Bench, steps: u8) -> Bench {
     let t = turn(placed, CONTROL);
     let first = t.bench;
