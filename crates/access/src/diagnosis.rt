@@ -10,7 +10,7 @@ use payloads::diagnosis::DiagnosticsInfo;
 use peripheral_set::PeripheralHandle;
 
 // The number, and the diagnosis; "none" before one is held, and when refused.
-#[derive(Drop)]
+#[derive(Clone, Copy)]
 pub struct LastDiagnosis {
     // 0, or the number that refuses the lent pool or the handle.
     pub refusal: u8,

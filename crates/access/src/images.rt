@@ -9,7 +9,7 @@ use peripheral_set::PeripheralHandle;
 use refusals::DONE;
 
 // The number, and where the image starts in its pool and how long it is; 0 and 0 when refused.
-#[derive(Drop)]
+#[derive(Clone, Copy)]
 pub struct ImageRange {
     // 0, or the number of `pi_q`.
     pub refusal: u8,

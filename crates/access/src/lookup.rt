@@ -10,7 +10,7 @@ use peripheral::record::Peripheral;
 use peripheral_set::PeripheralHandle;
 
 // The number of a handle, and its balance; a blank record when refused.
-#[derive(Drop)]
+#[derive(Clone, Copy)]
 pub struct Found {
     // 0, or the number that refuses the handle.
     pub refusal: u8,
@@ -19,7 +19,7 @@ pub struct Found {
 }
 
 // The number, and a yes or no about the balance.
-#[derive(Drop)]
+#[derive(Clone, Copy)]
 pub struct Flag {
     // 0, or the number that refuses the handle.
     pub refusal: u8,
@@ -28,7 +28,7 @@ pub struct Flag {
 }
 
 // The number, and the address of the balance.
-#[derive(Drop)]
+#[derive(Clone, Copy)]
 pub struct KnownAddress {
     // 0, or the number that refuses the handle.
     pub refusal: u8,
@@ -37,7 +37,7 @@ pub struct KnownAddress {
 }
 
 // The number, and the options of the balance.
-#[derive(Drop)]
+#[derive(Clone, Copy)]
 pub struct KnownOptions {
     // 0, or the number that refuses the handle.
     pub refusal: u8,

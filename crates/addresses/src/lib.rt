@@ -1,4 +1,6 @@
 // Whether an address is another balance's.
+#![tactic(auto)]
+
 ghost use Rattle.std.specs.Prelude.{◌≡◌};
 ghost use Rattle.peripheral_set.specs.Marks.{slots};
 ghost use Rattle.addresses.specs.Addresses.{has_it, elsewhere};

@@ -12,7 +12,7 @@ use peripheral_set::{PeripheralHandle, SLOTS};
 use station::state::PeripheralEvent;
 
 // The answer of a reply: the event with its handle.
-#[derive(Drop)]
+#[derive(Clone, Copy)]
 pub struct ReplyAnswer {
     // Number of the refusal, 2, 9 or 10; 0 when done.
     pub refusal: u8,
@@ -60,7 +60,7 @@ impl ReplyAnswer {
 }
 
 // What a reply makes of the parts that it touches: what is stored, what is kept, and the answer.
-#[derive(Drop)]
+#[derive(Clone, Copy)]
 pub struct Judged {
     // The balance with the open request, as the reply leaves it.
     pub peripheral: Peripheral,

@@ -12,7 +12,7 @@ use peripheral_set::PeripheralHandle;
 use station::state::PeripheralEvent;
 
 // What a turn sent.
-#[derive(Drop)]
+#[derive(Clone, Copy)]
 pub enum Transmission {
     // No telegram, and the payload buffer is as it was.
     Nothing,
@@ -30,7 +30,7 @@ pub enum Transmission {
 }
 
 // What was sent, and how long its payload is.
-#[derive(Drop)]
+#[derive(Clone, Copy)]
 pub struct Filled {
     // Length in bytes of the payload at the front of the buffer, 0 to 244; 0 where it does not fit. DECISIONS 25
     pub len: usize,
@@ -39,7 +39,7 @@ pub struct Filled {
 }
 
 // The answer of a turn: the first Offline event with its handle, and a bit for every slot reported Offline.
-#[derive(Drop)]
+#[derive(Clone, Copy)]
 pub struct TurnAnswer {
     // Number of the refusal, 2 or 3; 0 when done.
     pub refusal: u8,

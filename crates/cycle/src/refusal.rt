@@ -9,7 +9,7 @@ use peripheral_set::SLOTS;
 use refusals::{DONE, MAX_CONFIG, MAX_IMAGE, MAX_ROOM, MAX_USER};
 
 // The lengths of the four lent pools.
-#[derive(Drop)]
+#[derive(Clone, Copy)]
 pub struct Lent {
     // Bytes lent for user parameters and configurations.
     pub setup: usize,
@@ -22,7 +22,7 @@ pub struct Lent {
 }
 
 // The lengths that an add asks for.
-#[derive(Drop)]
+#[derive(Clone, Copy)]
 pub struct Lengths {
     // Bytes of user parameters, 0 where they are absent; above 237 refused as 7.
     pub user: usize,

@@ -11,7 +11,7 @@ use station::visit::Visited;
 pub type Mask = u32;
 
 // What the visits of a turn sent to a slot.
-#[derive(Drop)]
+#[derive(Clone, Copy)]
 pub enum Sent {
     // No visit sent anything.
     Nobody,
@@ -20,7 +20,7 @@ pub enum Sent {
 }
 
 // The slots reported Offline, and what was sent.
-#[derive(Drop)]
+#[derive(Clone, Copy)]
 pub struct Seen {
     // Bit s is set where the visit to slot s reported Offline.
     pub mask: Mask,

@@ -6,7 +6,7 @@ use crate::seen::{Seen, Sent};
 use peripheral_set::SLOTS;
 
 // The operating state of the master, which the caller sets.
-#[derive(Drop)]
+#[derive(Clone, Copy)]
 pub enum OperatingState {
     // 0: no data exchange; a turn sends nothing.
     Stop,
@@ -17,7 +17,7 @@ pub enum OperatingState {
 }
 
 // What a turn does: one of the four steps of document 01's "One turn".
-#[derive(Drop)]
+#[derive(Clone, Copy)]
 pub enum Step {
     // Step 1, in Stop: nothing is sent, and the place is kept.
     Halt,
@@ -31,7 +31,7 @@ pub enum Step {
 
 // Everything of the master that changes with each turn or reply. An open request has a kind that is not 0.
 #[repr(C)]
-#[derive(Drop)]
+#[derive(Clone, Copy)]
 pub struct DpMasterState {
     // Time of the last accepted turn in microseconds, 0 before the first.
     pub last_turn: u64,

@@ -3,7 +3,7 @@ ghost use Rattle.std.specs.Prelude.{◌≡◌};
 ghost use Rattle.fdl.specs.Sap.{sap_number, sap_of, service_sap};
 
 // The service access point at one end of a telegram (DSAP or SSAP), or none.
-#[derive(Drop)]
+#[derive(Clone, Copy)]
 pub enum Sap {
     // No access point, as in data exchange; its number is 255.
     Absent,
@@ -12,7 +12,7 @@ pub enum Sap {
 }
 
 // The services at the master's end and at the slave's end of a telegram; each has its access point.
-#[derive(Drop)]
+#[derive(Clone, Copy)]
 pub enum Service {
     // The master's end of data exchange (Data_Exchange): none.
     MasterDataExchange,

@@ -6,7 +6,7 @@ use refusals::{DONE, MAX_ADDRESS, MAX_POOL, MAX_RETRIES, MAX_SLOT_TIME};
 
 // What a unit is created with, and what it holds of that from then on.
 #[repr(C)]
-#[derive(Drop)]
+#[derive(Clone, Copy)]
 pub struct Parameters {
     // Tsl in microseconds, 1 to 1,000,000; 50 of them after a global control the next one is due.
     pub slot_time: u32,

@@ -7,7 +7,7 @@ use crate::consts::Sap;
 use refusals::MAX_PAYLOAD;
 
 // The bit that tells a repeated request from a new one; inactive in global control.
-#[derive(Drop)]
+#[derive(Clone, Copy)]
 pub enum FrameCountBit {
     // 1: FCB 1, FCV 0; a new or reset balance is asked with it until a reply cycles it.
     First,
@@ -20,7 +20,7 @@ pub enum FrameCountBit {
 }
 
 // The service and the priority of a request.
-#[derive(Drop)]
+#[derive(Clone, Copy)]
 pub enum RequestType {
     // 0x04: send data with no acknowledge, low priority, for the global control.
     SdnLow,
@@ -31,7 +31,7 @@ pub enum RequestType {
 }
 
 // The header of a request.
-#[derive(Drop)]
+#[derive(Clone, Copy)]
 pub struct DataTelegramHeader {
     // Destination: the address of the balance, or 0x7F, which is all, for the global control.
     pub da: u8,
@@ -48,7 +48,7 @@ pub struct DataTelegramHeader {
 }
 
 // What came in answer to a request; the payload of data is lent beside it.
-#[derive(Drop)]
+#[derive(Clone, Copy)]
 pub enum Telegram {
     // Kind 0: one byte on the wire (SC) and no payload; it acknowledges parameters and configuration.
     ShortConfirmation,

@@ -6,6 +6,8 @@
 //
 // The balance is played by `weight`, `telegram` and `payload`. On a real line the header of the request and the first `len` bytes of
 // `buf` go out, and what comes back is handed in.
+#![tactic(auto)]
+
 ghost use Rattle.std.specs.Prelude.{◌≡◌, [], ◌∷◌};
 
 use answers::reply_answer::ReplyAnswer;

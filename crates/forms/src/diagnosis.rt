@@ -7,7 +7,7 @@ use master::unit::DpMaster;
 use peripheral_set::PeripheralHandle;
 
 // The last diagnosis. "None" is `held` false, zeros, master 255 and an empty part; a master of 255 is none.
-#[derive(Drop)]
+#[derive(Clone, Copy)]
 pub struct PeripheralDiagnostics<'a> {
     // Bytes 0 and 1 of the diagnosis, low byte first, with 0x0400 removed; their bits are `DiagnosticFlags`.
     pub flags: u16,

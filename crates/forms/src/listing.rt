@@ -6,7 +6,7 @@ use master::unit::DpMaster;
 use peripheral_set::{Entry, SLOTS};
 
 // The number, and how many entries stand at the front of the list.
-#[derive(Drop)]
+#[derive(Clone, Copy)]
 pub struct Listed {
     // 0, or the number that refuses the list.
     pub refusal: u8,

@@ -1,5 +1,7 @@
 // The two forms that are proved by a walk of their code, in use: the listing in a lent list, and the last diagnosis as one record.
 // `stdout` has what this writes, worked out from document 01.
+#![tactic(auto)]
+
 ghost use Rattle.std.specs.Prelude.{◌≤◌};
 
 use fdl::parameters::Parameters;

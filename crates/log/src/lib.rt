@@ -1,1 +1,2 @@
 // The log tells all: no code, only definitions and proofs.
+#![tactic(auto)]

@@ -13,7 +13,7 @@ use peripheral_set::PeripheralHandle;
 use refusals::DONE;
 
 // What an add answers: the handle of the new balance; none where the add is refused.
-#[derive(Drop)]
+#[derive(Clone, Copy)]
 pub struct Added {
     // 0 where the balance was added, else the number that refused it.
     pub refusal: u8,
@@ -24,7 +24,7 @@ pub struct Added {
 }
 
 // What a call adds, beside its set-up data: absent data has the length 0 whatever is lent, and the two lengths in the options are not looked at. DECISIONS 14, 28
-#[derive(Drop)]
+#[derive(Clone, Copy)]
 pub struct Addition {
     // Address of the balance on the bus, 0 to 125, not the master's own and no other balance's.
     pub address: u8,

@@ -1,4 +1,6 @@
 // The DP master: one record by value over lent pools.
+#![tactic(auto)]
+
 pub mod add;
 pub mod handle;
 pub mod receive;

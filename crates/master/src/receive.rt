@@ -6,7 +6,7 @@ use answers::reply_answer::ReplyAnswer;
 use fdl::telegram::Telegram;
 
 // What a reply leaves, and what it answers.
-#[derive(Drop)]
+#[derive(Clone, Copy)]
 pub struct Answered {
     // The unit after the reply; the one that came in where refused.
     pub master: DpMaster,

@@ -7,7 +7,7 @@ use cycle::seen::Seen;
 use peripheral_set::SLOTS;
 
 // What a turn leaves, and what it answers.
-#[derive(Drop)]
+#[derive(Clone, Copy)]
 pub struct Turn {
     // The unit after the turn; the one that came in where refused.
     pub master: DpMaster,

@@ -10,7 +10,7 @@ use peripheral_set::SLOTS;
 
 // The used part of each pool.
 #[repr(C)]
-#[derive(Drop)]
+#[derive(Clone, Copy)]
 pub struct Used {
     // Bytes in use at the front of the pool of set-up data, 0 to its length; the next add goes behind them.
     pub setup: u16,
@@ -24,7 +24,7 @@ pub struct Used {
 
 // The unit: 24 bytes that change with each turn, 20 of parameters, 8 of used lengths, a mark and 36 bytes a slot; 1,240 in all.
 #[repr(C)]
-#[derive(Drop)]
+#[derive(Clone, Copy)]
 pub struct DpMaster {
     // Operating state, times, place and open request: what turns and replies change of the master itself.
     pub state: DpMasterState,
@@ -39,7 +39,7 @@ pub struct DpMaster {
 }
 
 // What a call that answers a number leaves.
-#[derive(Drop)]
+#[derive(Clone, Copy)]
 pub struct Done {
     // 0 where the call was done, else the number that refused it.
     pub refusal: u8,

@@ -1,5 +1,7 @@
 // Parts of lent byte slices: what the Rust's `ManagedSlice` images and buffers become.
 // Every function is total: a range that does not lie in the slice reads as empty, and nothing is written.
+#![tactic(auto)]
+
 ghost use Rattle.std.specs.Prelude.{◌≡◌, ◌+◌, ◌<◌, leb, get_or};
 ghost use Rattle.parts.specs.Parts.{zeros, Put, view_at, Itself};
 

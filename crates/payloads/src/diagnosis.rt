@@ -7,7 +7,7 @@ use fdl::telegram::Telegram;
 
 // The last diagnosis that was taken, without its extended part.
 #[repr(C)]
-#[derive(Drop)]
+#[derive(Clone, Copy)]
 pub struct DiagnosticsInfo {
     // Bytes 0 and 1 of the reply, low byte first, with 0x0400 removed; 0 before a diagnosis is held.
     pub flags: u16,
@@ -34,7 +34,7 @@ impl DiagnosticsInfo {
 }
 
 // The flags of a diagnosis that a rule looks at.
-#[derive(Drop)]
+#[derive(Clone, Copy)]
 pub enum DiagnosticFlags {
     // 0x0002: it is not ready for data exchange; in ValidateConfig it is asked again.
     StationNotReady,

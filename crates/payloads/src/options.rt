@@ -2,7 +2,7 @@
 
 // The options of a balance; absent user parameters or configuration have the length 0 and no mark.
 #[repr(C)]
-#[derive(Drop)]
+#[derive(Clone, Copy)]
 pub struct PeripheralOptions {
     // Ident number by the GSD file, any of 16 bits; parameter bytes 4 and 5, high byte first.
     pub ident_number: u16,

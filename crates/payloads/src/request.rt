@@ -6,7 +6,7 @@ use fdl::consts::Service;
 use fdl::telegram::{DataTelegramHeader, FrameCountBit, RequestType};
 
 // What a balance can be asked for or told; a turn sends at most one.
-#[derive(Drop)]
+#[derive(Clone, Copy)]
 pub enum Request {
     // 1: its diagnosis (Slave_Diag), DSAP 60; no payload.
     Diagnosis,

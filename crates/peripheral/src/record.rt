@@ -10,7 +10,7 @@ use station::record::Station;
 
 // Where the four ranges stand in their pools. The set-up range is as long as its user parameters and configuration.
 #[repr(C)]
-#[derive(Drop)]
+#[derive(Clone, Copy)]
 pub struct Ranges {
     // First byte of the set-up range in its pool, 0 to 16,384: user parameters, then configuration.
     pub setup: u16,
@@ -30,7 +30,7 @@ pub struct Ranges {
 
 // The record of a balance, 36 bytes: 12 that visits and replies change, and 24 that they do not.
 #[repr(C)]
-#[derive(Drop)]
+#[derive(Clone, Copy)]
 pub struct Peripheral {
     // What visits and replies change; a reset makes it new.
     pub station: Station,

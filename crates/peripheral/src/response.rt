@@ -13,7 +13,7 @@ use station::heard::Heard;
 use station::state::{PeripheralEvent, PeripheralState};
 
 // What of a payload is kept: the input image, or the extended part of a diagnosis.
-#[derive(Drop)]
+#[derive(Clone, Copy)]
 pub enum Keeps {
     // No byte: both pools stay as they are.
     Neither,
@@ -24,7 +24,7 @@ pub enum Keeps {
 }
 
 // The extended part of a diagnosis: whether there is one that fits its room, and how many bytes are stored then.
-#[derive(Drop)]
+#[derive(Clone, Copy)]
 pub struct Extended {
     // Whether 0x0008 announces a part and the room, which lies in the pool, takes it.
     pub fits: bool,
@@ -33,7 +33,7 @@ pub struct Extended {
 }
 
 // The peripheral after a reply, what is reported, and what is to be kept.
-#[derive(Drop)]
+#[derive(Clone, Copy)]
 pub struct Reply {
     // As the reply leaves it: only its station differs.
     pub peripheral: Peripheral,

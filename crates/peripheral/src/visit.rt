@@ -10,7 +10,7 @@ use payloads::request::Request;
 use station::visit::Visited;
 
 // The peripheral after a visit, and what the visit does.
-#[derive(Drop)]
+#[derive(Clone, Copy)]
 pub struct Visit {
     // As the visit leaves it: at most its state, count and frame bit differ.
     pub peripheral: Peripheral,

@@ -1,5 +1,7 @@
 // Which slots of the table are occupied: the first empty one, the next occupied one, and the listing.
 // No code of the unit above looks a mark up itself, so that another way to find a slot changes nothing there.
+#![tactic(auto)]
+
 ghost use Rattle.std.specs.Prelude.{◌≡◌, true, false, length, get_or, ◌-◌};
 ghost use Rattle.peripheral_set.specs.Marks.{slots, same_mark, search_from, no_handle, first_empty, at_or_after, next_after, is_occupied, listed, handle_refusal};
 
@@ -8,7 +10,7 @@ pub const SLOTS: usize = 32;
 
 // A slot with the address at issue.
 #[repr(C)]
-#[derive(Drop)]
+#[derive(Clone, Copy)]
 pub struct PeripheralHandle {
     // Slot number, 0 to 31; 255 stands for no balance.
     pub slot: u8,
@@ -18,7 +20,7 @@ pub struct PeripheralHandle {
 
 // One row of the listing.
 #[repr(C)]
-#[derive(Drop)]
+#[derive(Clone, Copy)]
 pub struct Entry {
     // Slot number, 0 to 31, or 255 where there is no such entry; rising from row to row.
     pub slot: u8,

@@ -1,5 +1,7 @@
 // The table of refusals: its numbers and limits by name, and a function for each row but that of a short list, which stands with the list in `forms`.
 // Every call's refusal is a run of these rows in the table's order; each is given the number so far, so that the first that applies is the answer.
+#![tactic(auto)]
+
 ghost use Rattle.std.specs.Prelude.{◌≡◌, cond, ◌||◌};
 ghost use Rattle.refusals.specs.Table.{or_else, said, parameter_row, lent_row, buffer_row, turn_row, handle_row, full_row, address_row, shared_row, length_row, room_row, asked_row, usable_row, write_row};
 

@@ -1,5 +1,7 @@
 // Reads call scripts (docs/SCRIPTS.md) from standard input, makes the calls on a unit and writes the answers.
 // What a line does is decided in `driver`, with exact contracts; here the lines are read, handed on, and answered.
+#![tactic(auto)]
+
 ghost use Rattle.std.specs.Prelude.{◌≡◌, ◌<◌, length};
 ghost use Rattle.script_driver.specs.Room.{next_at};
 
@@ -17,7 +19,7 @@ use script_driver::run::Run;
 use script_lines::{Call, Lent};
 
 // What a line leaves, and where the next answer goes.
-#[derive(Drop)]
+#[derive(Clone, Copy)]
 struct Step {
     run: Run,
     at: usize,
@@ -398,7 +400,7 @@ fn line(
 }
 
 // What stands between two chunks: the unit, what came of a line, and how much of the output waits.
-#[derive(Drop)]
+#[derive(Clone, Copy)]
 struct Work {
     run: Run,
     line: Partial,

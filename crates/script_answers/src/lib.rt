@@ -1,4 +1,6 @@
 // Call scripts as text (docs/SCRIPTS.md): an answer to a line, with its newline.
+#![tactic(auto)]
+
 ghost use Rattle.script_fields.specs.Write.{Wrote};
 ghost use Rattle.std.specs.Prelude.{◌≡◌};
 ghost use Rattle.script_answers.specs.Answer.{bare_text, numbered_text, added_text, header_text, sent_number, transmission_text, turn_text, reply_text, image_text, diagnosis_text, listing_text};

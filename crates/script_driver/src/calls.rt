@@ -186,7 +186,7 @@ pub fn extended(run: Run, handle: PeripheralHandle, diags: &[u8]) -> &[u8]
 }
 
 // The number of H, and how many bytes of the list its entries take.
-#[derive(Drop)]
+#[derive(Clone, Copy)]
 pub struct Shown {
     // 0, or 2 where the lent list has fewer entries than there are slots.
     pub refusal: u8,

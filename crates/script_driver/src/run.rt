@@ -7,7 +7,7 @@ use master::unit::DpMaster;
 use script_lines::{Call, Lent};
 
 // The unit, whether there was an N yet, the lent lengths as N set them, and those of the next call.
-#[derive(Drop)]
+#[derive(Clone, Copy)]
 pub struct Run {
     // The unit as the last call left it; before the first N one that is never seen.
     pub unit: DpMaster,
@@ -20,7 +20,7 @@ pub struct Run {
 }
 
 // What an N answers and leaves.
-#[derive(Drop)]
+#[derive(Clone, Copy)]
 pub struct Made {
     // 0, or 1 where a parameter is outside its range.
     pub refusal: u8,

@@ -1,4 +1,6 @@
 // The dump of a unit and of the sums of its four pool arrays.
+#![tactic(auto)]
+
 ghost use Rattle.std.specs.Prelude.{◌≡◌, cond};
 ghost use Rattle.peripheral_set.specs.Marks.{slots as slot_count};
 ghost use Rattle.script_fields.specs.Write.{Wrote};
@@ -12,7 +14,7 @@ use peripheral_set::SLOTS;
 use script_fields::write;
 
 // The checksums of the four whole pool arrays.
-#[derive(Drop)]
+#[derive(Clone, Copy)]
 pub struct Sums {
     // Of the array of set-up data; each sum is below 1,000,000,007.
     pub setup: u64,

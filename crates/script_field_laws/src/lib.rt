@@ -1,1 +1,2 @@
 // No code: what a writer of fields writes, the reader reads back.
+#![tactic(auto)]

@@ -3,7 +3,7 @@ ghost use Rattle.std.specs.Prelude.{◌≡◌, true, false, ◌<◌, length, dro
 ghost use Rattle.script_fields.specs.Read.{wrong as badPlace, right as goodPlace, has_at, space_at, ends_at, found as found_at, no_number, is_digit, digits_from, number_at, small_at, wide_at, word_at, flag_at, most, hex_worth, pairs_of, some_bytes, no_bytes, absent_on, front, BytesRead, SetupRead};
 
 // Where a reader stands, and whether all was right up to there. Once something is wrong it stays so.
-#[derive(Drop)]
+#[derive(Clone, Copy)]
 pub struct Cursor {
     // Index of the next byte of the line; 0 once something is wrong.
     pub at: usize,
@@ -12,7 +12,7 @@ pub struct Cursor {
 }
 
 // A number of up to 64 bits, and where the line goes on.
-#[derive(Drop)]
+#[derive(Clone, Copy)]
 pub struct U64Field {
     // What the digits are worth, 0 to the reader's limit; 0 where they are wrong.
     pub value: u64,
@@ -21,7 +21,7 @@ pub struct U64Field {
 }
 
 // A number of one byte, and where the line goes on.
-#[derive(Drop)]
+#[derive(Clone, Copy)]
 pub struct U8Field {
     // The number, 0 to 255; 0 where it is wrong.
     pub value: u8,
@@ -30,7 +30,7 @@ pub struct U8Field {
 }
 
 // A number of two bytes, and where the line goes on.
-#[derive(Drop)]
+#[derive(Clone, Copy)]
 pub struct U16Field {
     // The number, 0 to 65,535; 0 where it is wrong.
     pub value: u16,
@@ -39,7 +39,7 @@ pub struct U16Field {
 }
 
 // A number of four bytes, and where the line goes on.
-#[derive(Drop)]
+#[derive(Clone, Copy)]
 pub struct U32Field {
     // The number, 0 to 4,294,967,295; 0 where it is wrong.
     pub value: u32,
@@ -48,7 +48,7 @@ pub struct U32Field {
 }
 
 // A flag, and where the line goes on.
-#[derive(Drop)]
+#[derive(Clone, Copy)]
 pub struct FlagField {
     // True for `1`; false for `0`, and where it is neither.
     pub value: bool,
@@ -57,7 +57,7 @@ pub struct FlagField {
 }
 
 // So many bytes stand in the lent array; absent set-up data has none.
-#[derive(Drop)]
+#[derive(Clone, Copy)]
 pub struct BytesField {
     // Whether there are bytes at all: false for `x`, and where the field is wrong.
     pub present: bool,

@@ -1,4 +1,6 @@
 // Call scripts as text (docs/SCRIPTS.md): a line to a call.
+#![tactic(auto)]
+
 ghost use Rattle.std.specs.Prelude.{◌≡◌};
 ghost use Rattle.script_lines.specs.Fields.{if_ends};
 ghost use Rattle.script_lines.specs.Making.{new_call, lend_call, pools_call, payload_call};
@@ -18,7 +20,7 @@ use script_fields::read;
 use script_fields::read::Cursor;
 
 // How many bytes of each array a call is lent, and how many entries of the list.
-#[derive(Drop)]
+#[derive(Clone, Copy)]
 pub struct Lent {
     // Bytes of the array of set-up data: L's `ps`, at most `MOST_LENT`.
     pub setup: u16,
@@ -35,7 +37,7 @@ pub struct Lent {
 }
 
 // What a line asks for, by its letter. Bytes stand in the two lent arrays, here is how many.
-#[derive(Drop)]
+#[derive(Clone, Copy)]
 pub enum Call {
     // No call: the line is answered with `?`, and changes nothing.
     Unknown,
@@ -194,7 +196,7 @@ fn fill_payload(s: &[u8]) -> Call
 }
 
 // What an add says before its set-up data.
-#[derive(Drop)]
+#[derive(Clone, Copy)]
 struct AddHead {
     address: u8,
     ident: u16,
@@ -206,7 +208,7 @@ struct AddHead {
 }
 
 // The lengths behind it.
-#[derive(Drop)]
+#[derive(Clone, Copy)]
 struct AddTail {
     inputs: usize,
     outputs: usize,
@@ -399,7 +401,7 @@ fn reply_of(address: u8, kind: u8, dsap: u8, ssap: u8, status: u8, len: usize) -
 }
 
 // A handle, and where the line goes on.
-#[derive(Drop)]
+#[derive(Clone, Copy)]
 struct Held {
     handle: PeripheralHandle,
     next: Cursor,

@@ -55,7 +55,7 @@ pub fn addition(address: u8) -> Addition
 }
 
 // What a balance answers: the telegram, where it comes from, and which payload goes with it.
-#[derive(Drop)]
+#[derive(Clone, Copy)]
 pub struct Answer {
     // Whether it says anything; where not, the rest is 0 and a short confirmation.
     pub answers: bool,

@@ -14,6 +14,8 @@
 // The sum is h = 1, and h = (h * 256 + n) mod 1000000007 for each number n of each answer, in the order of docs/SCRIPTS.md: of a turn the seven
 // numbers, and where something was sent the seven behind them and each byte of the payload; of a reply the four; and at the end the four bytes
 // of each balance's input image, in the order of the slots. It is written in decimal, with a newline.
+#![tactic(auto)]
+
 mod balance;
 mod total;
 
@@ -26,7 +28,7 @@ use master::unit::DpMaster;
 use peripheral_set::PeripheralHandle;
 
 // The unit and the sum so far.
-#[derive(Drop)]
+#[derive(Clone, Copy)]
 struct Bench {
     unit: DpMaster,
     sum: u32,
@@ -58,7 +60,7 @@ fn replied(b: Bench, r: Answer, c: u64, inputs: &mut [u8], diags: &mut [u8]) -> 
 }
 
 // After a turn: the unit and the sum, and what was sent.
-#[derive(Drop)]
+#[derive(Clone, Copy)]
 struct AfterTurn {
     bench: Bench,
     transmission: Transmission,

@@ -10,7 +10,7 @@ use fdl::telegram::{FrameCountBit, Telegram};
 use payloads::diagnosis::{DiagnosticFlags, DiagnosticsInfo};
 
 // The station after a reply, and what is reported.
-#[derive(Drop)]
+#[derive(Clone, Copy)]
 pub struct Heard {
     // As the reply leaves it.
     pub station: Station,

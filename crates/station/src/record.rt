@@ -8,7 +8,7 @@ use payloads::diagnosis::DiagnosticsInfo;
 
 // A balance as the master sees it; state and frame bit are numbers, so that a record can be stored to field by field.
 #[repr(C)]
-#[derive(Drop)]
+#[derive(Clone, Copy)]
 pub struct Station {
     // Station address, 0 to 125 and not the master's; 0 in an empty slot.
     pub address: u8,

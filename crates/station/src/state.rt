@@ -3,7 +3,7 @@ ghost use Rattle.std.specs.Prelude.{◌≡◌};
 ghost use Rattle.station.specs.State.{number_of, state_of, live_state, running_state, event_number};
 
 // How far the set-up of a balance has come; it says what the next visit asks.
-#[derive(Drop)]
+#[derive(Clone, Copy)]
 pub enum PeripheralState {
     // 0: it is new, does not respond, or rejected its set-up; a diagnosis is asked for.
     Offline,
@@ -20,7 +20,7 @@ pub enum PeripheralState {
 }
 
 // What a visit or a reply reports.
-#[derive(Drop)]
+#[derive(Clone, Copy)]
 pub enum PeripheralEvent {
     // 0: there is nothing to report.
     NoEvent,

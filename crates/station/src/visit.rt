@@ -8,7 +8,7 @@ use crate::state::PeripheralState;
 use payloads::request::Request;
 
 // What a visit does: sends a request, reports the station Offline, or nothing.
-#[derive(Drop)]
+#[derive(Clone, Copy)]
 pub enum Visited {
     // Sends this request, and adds 1 to the count.
     Sends(Request),

@@ -19,7 +19,7 @@ pub const KEPT: u8 = 7;
 pub const OUTPUTS: [u8; 8] = [1, 2, 3, 4, 5, 6, 7, 8];
 
 // A balance to be added: its address, the lengths of its images, and whether it is marked fail-safe.
-#[derive(Drop)]
+#[derive(Clone, Copy)]
 pub struct Balance {
     // Its station address.
     pub address: u8,
@@ -32,7 +32,7 @@ pub struct Balance {
 }
 
 // The unit, and the pools that the trials look at: by value, so that a trial is a chain of calls.
-#[derive(Drop)]
+#[derive(Clone, Copy)]
 pub struct Bench {
     // The unit, as the calls of the trial so far left it.
     pub unit: DpMaster,
@@ -43,7 +43,7 @@ pub struct Bench {
 }
 
 // What an add answers, and the two pools that no trial looks at.
-#[derive(Drop)]
+#[derive(Clone, Copy)]
 pub struct Placed {
     // The number that the add answered.
     pub refusal: u8,
@@ -58,7 +58,7 @@ pub struct Placed {
 }
 
 // What a turn answers, and the payload.
-#[derive(Drop)]
+#[derive(Clone, Copy)]
 pub struct Seen {
     // The bench after the turn, with its pools as they were.
     pub bench: Bench,
@@ -69,7 +69,7 @@ pub struct Seen {
 }
 
 // What a reply answers, and the pool that no trial looks at.
-#[derive(Drop)]
+#[derive(Clone, Copy)]
 pub struct Replied {
     // The bench after the reply, with the input image that it may have brought.
     pub bench: Bench,

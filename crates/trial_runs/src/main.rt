@@ -1,5 +1,7 @@
 // The eighteen trial runs of document 01, one line each: its number, and "ok" or "bad".
 // Each compares every value that document 01 names for it.
+#![tactic(auto)]
+
 mod bench;
 
 use crate::bench::{
@@ -49,7 +51,7 @@ const DATA: u8 = 4;
 const GLOBAL_CONTROL: u8 = 5;
 
 // A reply, and the balance before and after it.
-#[derive(Drop)]
+#[derive(Clone, Copy)]
 struct Reading {
     asked: u8,
     refusal: u8,
@@ -307,7 +309,7 @@ fn no_data() -> bool {
 }
 
 // What three turns do with the balance silent: the kind of request of each, and whether it reports Offline.
-#[derive(Drop)]
+#[derive(Clone, Copy)]
 struct Three {
     first: u8,
     second: u8,

@@ -1,1 +1,2 @@
 // What holds of every unit: no code, only definitions and proofs.
+#![tactic(auto)]
