@@ -3,6 +3,7 @@
 #![tactic(auto)]
 
 ghost use Rattle.std.specs.Prelude.{◌≡◌, ◌+◌, ◌<◌, leb, get_or};
+ghost use denote.MutBor.{as_bor};
 ghost use Rattle.parts.specs.Parts.{zeros, Put, view_at, Itself};
 
 // An offset in a pool or a pool's length, at most 65,535, widened where it is used.
@@ -85,7 +86,7 @@ pub fn part(src: &[u8], at: usize, len: usize) -> &[u8]
 
 // The same range as that of `part`, for the caller to write.
 pub fn part_mut(src: &mut [u8], at: usize, len: usize) -> &mut [u8]
-    ensures { Itself (view_at at len src.old) src.entry result }
+    ensures { Itself (view_at at len src.old) (as_bor src.entry) (as_bor result) }
 {
     if inside(at, len, src.len()) {
         let end = at + len;
