@@ -2,7 +2,7 @@
 -- The idea: the notes come into it as a few Bools (parameters, configuration, ready, due), and each row of the tables of visits and replies is one line.
 use mathlib.Core.Path.{◌≡◌, refl, sym, ap, ◌∙◌}
 use Prim.Native.Nat.{ℕ}
-use mathlib.Core.Bool.{Bool, true, false, not, ◌&&◌, ◌||◌, false≢true, and_false, or-false, cond}
+use mathlib.Core.Bool.{Bool, true, false, not, ◌&&◌, ◌||◌, false≢true, and-false, or-false, cond}
 use mathlib.Core.List.{List}
 use mathlib.Core.Option.{Option, some}
 use lib.Dec.{T}
@@ -44,7 +44,7 @@ pub record Told (s : Station) (l : List Note) : Type 0 where
 
 -- a note that is no fall, no acknowledgement, no diagnosis and no "SAP not enabled" leaves the words as they were
 same_words : (x : PeripheralState) (hp hc rd : Bool) → T (phase x hp hc rd) → T (phase x hp (hc || (hp && false)) (rd || (hc && false)))
-same_words x hp hc rd h = rw (and_false hp, and_false hc, or-false hc, or-false rd) h
+same_words x hp hc rd h = rw (and-false hp, and-false hc, or-false hc, or-false rd) h
 
 -- ready exactly in the exchange states, and then configuration is acknowledged
 is_not : (a : Bool) → T (not a) → a ≡ false
@@ -73,10 +73,10 @@ when-due true = refl
 when-due false = refl
 
 wants_data : (x : PeripheralState) (d : Bool) → is_data (request_in x d) ≡ (not d && exchanging x)
-wants_data Offline d = sym (and_false (not d))
-wants_data WaitForParam d = sym (and_false (not d))
-wants_data WaitForConfig d = sym (and_false (not d))
-wants_data ValidateConfig d = sym (and_false (not d))
+wants_data Offline d = sym (and-false (not d))
+wants_data WaitForParam d = sym (and-false (not d))
+wants_data WaitForConfig d = sym (and-false (not d))
+wants_data ValidateConfig d = sym (and-false (not d))
 wants_data PreDataExchange d = when-due d
 wants_data DataExchange d = when-due d
 
@@ -99,7 +99,7 @@ KeptBy h k t payload hp hc rd d = Kept h (confirms Parameters k t) (confirms Con
 
 -- not ready, and not made so
 not_yet : (hc rd : Bool) → T (not rd) → T (not (rd || (hc && false)))
-not_yet hc rd h = rw (and_false hc, or-false rd) h
+not_yet hc rd h = rw (and-false hc, or-false rd) h
 
 not_at_all : (hc rd q : Bool) → T (not hc && not rd) → T (not (rd || (hc && q)))
 not_at_all true rd q h = absurd h

@@ -1,7 +1,7 @@
 -- The laws of the readers: each definition, case by case, over plain numbers and flags.
 -- The idea: a reader's tests are handed to these laws as equations, and what a place of the line holds is one argument.
 use mathlib.Core.Path.{◌≡◌, refl, sym, ap, ◌∙◌, subst}
-use mathlib.Core.Bool.{Bool, true, false, ◌&&◌, and_false, cond}
+use mathlib.Core.Bool.{Bool, true, false, ◌&&◌, and-false, cond}
 use mathlib.Core.List.{List, [], ◌∷◌}
 use Prim.Native.Nat.{ℕ, zero, suc, ◌+◌, ◌-◌, ◌*◌, ◌≤◌, ◌<◌}
 use native.Mathlib.Numerals.{add-one}
@@ -141,11 +141,11 @@ module _ (s : List ℕ) (i : ℕ) where
 
   pub pair_high : 15 < hex_worth (get_or s i 0) → is_pair (drop i s) ≡ false
   unfolding is_pair
-  pair_high h = simp (at_0, lt-leb (hex_worth (get_or s i 0)) 15 h) (and_false (leb 2 (length (drop i s))))
+  pair_high h = simp (at_0, lt-leb (hex_worth (get_or s i 0)) 15 h) (and-false (leb 2 (length (drop i s))))
 
   pub pair_low : 15 < hex_worth (get_or s (i + 1) 0) → is_pair (drop i s) ≡ false
   unfolding is_pair
-  pair_low h = simp (at_1, lt-leb (hex_worth (get_or s (i + 1) 0)) 15 h, and_false)
+  pair_low h = simp (at_1, lt-leb (hex_worth (get_or s (i + 1) 0)) 15 h, and-false)
 
   pub pair_there : 2 ≤ length s - i → hex_worth (get_or s i 0) ≤ 15 → hex_worth (get_or s (i + 1) 0) ≤ 15 → is_pair (drop i s) ≡ true
   unfolding is_pair
