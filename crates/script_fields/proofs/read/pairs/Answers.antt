@@ -26,9 +26,9 @@ pub returns-then-low-gt15 : goal.returns-then-low-gt15
 returns-then-low-gt15 c = pairing_stops c.args.s.now _ _ c.loop-n.out c.loop-n.n c.loop-n.i c.loop-n.invariant (pair_low c.args.s.now c.loop-n.i (omega (arith, c.hex-low.ensures.0)))
 
 pub loop-n-preserved : goal.loop-n-preserved
-loop-n-preserved c = pairing_goes_on c.args.s.now _ _ c.loop.out c.loop.n c.loop.i c.loop.invariant c.hex.result c.hex2.result c.loop-test.true
-    (pair_there c.args.s.now c.loop.i (omega arith) (omega (arith, c.hex.ensures.0)) (omega (arith, c.hex2.ensures.0)))
-    c.hex.ensures.0 c.hex2.ensures.0
+loop-n-preserved c = pairing_goes_on c.args.s.now _ _ c.loop-n.out c.loop-n.n c.loop-n.i c.loop-n.invariant c.hex-high.result c.hex-low.result c.loop-n-test.true
+    (pair_there c.args.s.now c.loop-n.i (omega arith) (omega (arith, c.hex-high.ensures.0)) (omega (arith, c.hex-low.ensures.0)))
+    c.hex-high.ensures.0 c.hex-low.ensures.0
 
 pub returns : goal.returns
 returns c = pairing_full c.args.s.now _ _ c.loop-n.out c.loop-n.n c.loop-n.i c.loop-n.invariant c.loop-n-test.false

@@ -6,7 +6,7 @@ use Rattle.script_fields.proofs.Laws.{then}
 use Rattle.script_fields.proofs.write.field.Goals as goal
 
 pub shape_of-out : goal.shape_of-out
-shape_of-out c = c.number.auto.0 ∙ c.put-next.auto.0
+shape_of-out c = c.number.auto.out ∙ c.put-next.auto.out
 
 pub returns : goal.returns
 returns c = then (32 ∷ []) (decimal c.args.n) _ _ _ c.put-next.ensures c.number.ensures

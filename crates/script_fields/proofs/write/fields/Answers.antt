@@ -17,7 +17,7 @@ pub loop-i-preserved : goal.loop-i-preserved
 loop-i-preserved c = let l = c.args.list.now in
     let i = c.loop-i.i in (
       omega arith,
-      c.field-next.auto.0 ∙ c.loop-i.invariant.1,
+      c.field-next.auto.out ∙ c.loop-i.invariant.1,
       left_to_write (fields_text (drop i l)) (field_text (get_or l i 0)) (fields_text (drop (i + 1) l)) (standing c.loop-i.next c.loop-i.out) _ _
           (fields_next l i c.loop-i-test.true) c.field-next.ensures c.loop-i.invariant.2,
     )

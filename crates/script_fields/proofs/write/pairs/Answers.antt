@@ -19,7 +19,7 @@ loop-i-preserved c = let l = c.args.list.now in
     let i = c.loop-i.i in
     let o = standing c.loop-i.next c.loop-i.out in (
       omega arith,
-      c.put-next-in-loop-i.auto.0 ∙ c.put-next.auto.0 ∙ c.loop-i.invariant.1,
+      c.put-next-in-loop-i.auto.out ∙ c.put-next.auto.out ∙ c.loop-i.invariant.1,
       left_to_write (hex_text (drop i l)) (c.hex.result ∷ c.hex-in-loop-i.result ∷ []) (hex_text (drop (i + 1) l)) o _ _
           (simp (c.hex.ensures, c.hex-in-loop-i.ensures) (hex_next l i c.loop-i-test.true))
           (then (c.hex.result ∷ []) (c.hex-in-loop-i.result ∷ []) o _ _ c.put-next.ensures c.put-next-in-loop-i.ensures)
