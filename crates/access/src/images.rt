@@ -1,5 +1,6 @@
 // Images in the lent pools: the part itself, empty when refused, and a call that answers the number.
 ghost use Rattle.std.specs.Prelude.{◌≡◌};
+ghost use denote.MutBor.{as_bor};
 ghost use Rattle.parts.specs.Parts.{Itself};
 ghost use Rattle.access.specs.Lookup.{pooled_refusal, input_number, output_number, inputs_seen, outputs_seen, range_of, OutputsWritten};
 
@@ -81,7 +82,7 @@ pub fn pi_q(m: DpMaster, handle: PeripheralHandle, outputs: &[u8]) -> &[u8]
 // Refuses: pooled_rows.
 // Changes: nothing by itself; what the caller writes into the part stands in the pool.
 pub fn pi_q_mut(m: DpMaster, handle: PeripheralHandle, outputs: &mut [u8]) -> &mut [u8]
-    ensures { Itself (outputs_seen m handle outputs.old) outputs.entry result }
+    ensures { Itself (outputs_seen m handle outputs.old) (as_bor outputs.entry) (as_bor result) }
 {
     if pooled_refusal(m, handle, outputs.len(), m.parameters.output_pool) != 0 {
         return &mut outputs[0..0];

@@ -1,5 +1,6 @@
 // The record of a peripheral, as newly added and after a reset, and what can be read off it.
 ghost use Rattle.std.specs.Prelude.{◌≡◌, true};
+ghost use denote.MutBor.{as_bor};
 ghost use Rattle.parts.specs.Parts.{Itself};
 ghost use Rattle.station.specs.Record.{due_is, is_live, is_running, last_diagnosis};
 ghost use Rattle.peripheral.specs.Record.{blank, new_balance, reset_of, station_is, input_view, output_view, extended_view};
@@ -188,7 +189,7 @@ impl Peripheral {
 
     // The output image, for the caller to write.
     pub fn pi_q_mut(self, outputs: &mut [u8]) -> &mut [u8]
-        ensures { Itself (output_view self outputs.old) outputs.entry result }
+        ensures { Itself (output_view self outputs.old) (as_bor outputs.entry) (as_bor result) }
     {
         parts::part_mut(
             outputs,

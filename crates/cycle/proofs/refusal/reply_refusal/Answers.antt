@@ -1,0 +1,9 @@
+-- `reply_refusal` meets its contract: its rows in turn.
+use mathlib.Core.Path.{refl}
+use Rattle.refusals.proofs.Laws.{in-turn}
+use Rattle.cycle.specs.Refusal.{reply_rows, reply_refusal}
+use Rattle.cycle.proofs.refusal.reply_refusal.Goals as goal
+
+pub returns : goal.returns
+unfolding reply_refusal
+returns c = let a = c.args in cc (in-turn (reply_rows a.u a.s a.asked a.address a.telegram a.payload a.inputs a.diags) refl)
