@@ -1,0 +1,7 @@
+-- `empty_unit` meets its contract: repeats are the definition's.
+use Rattle.master.specs.Unit.{empty_unit}
+use Rattle.master.proofs.unit.empty_unit.Goals as goal
+
+pub returns : goal.returns
+unfolding empty_unit
+returns c = rw (c.new-state.ensures, c.blank-blank.ensures)
