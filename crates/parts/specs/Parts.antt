@@ -1,7 +1,7 @@
 -- The words for lent bytes: a part of a list, that part itself in a lent slice, and a list with something put into a range of it.
 -- From 01, "The unit and its sizes" (ranges in pools), "Refusal numbers" (which bytes are kept) and the new form of `ManagedSlice` ("the caller gets the part itself").
 -- Every word is total: a range that does not lie in the list reads as empty, and nothing is put there.
-use Rattle.std.specs.Prelude.{◌≡◌, ℕ, ◌+◌, Bool, true, false, ◌&&◌, cond, List, [], ◌++◌, length, take, drop, replicate, leb}
+use Rattle.std.specs.Prelude.{◌≡◌, ℕ, ◌+◌, Bool, ◌&&◌, cond, List, [], ◌++◌, length, take, drop, replicate, leb}
 use Rattle.std.specs.Borrow.{Bor}
 
 -- the range of len elements from index at lies in l

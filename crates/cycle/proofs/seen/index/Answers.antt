@@ -3,9 +3,6 @@
 use mathlib.Core.Path.{refl, ◌∙◌}
 use borrow.Author.Tests.{lt-ltb, le-ltb}
 use native.Mathlib.Omega.{arith}
-use Rattle.cycle.proofs.seen.index.Reads as reads
-use Rattle.cycle.proofs.seen.index.Lts as lts
-use Rattle.parts.proofs.widen8.Reads as widen8-reads
 use Rattle.cycle.proofs.seen.index.Goals as goal
 
 -- src/seen.rt:34:1

@@ -1,8 +1,5 @@
 -- `control_header` meets its contract, by what the services promise.
 -- src/request.rt:20:9
-use Rattle.payloads.proofs.request.control_header.Reads as reads
-use Rattle.payloads.proofs.request.control_header.Lts as lts
-use Rattle.fdl.proofs.consts.Service.sap.Reads as sap-reads
 use Rattle.payloads.proofs.request.control_header.Goals as goal
 
 -- src/request.rt:17:1

@@ -6,9 +6,6 @@ use mathlib.Core.List.{[], ◌∷◌}
 use Rattle.parts.proofs.Laws.{put_sets}
 use Rattle.payloads.specs.Payload.{control_payload}
 use Rattle.payloads.proofs.Facts.{put_written, unwritten_short}
-use Rattle.payloads.proofs.write.write_control.Reads as reads
-use Rattle.payloads.proofs.write.write_control.Lts as lts
-use Rattle.payloads.proofs.write.bit_if.Reads as bit-if-reads
 use Rattle.payloads.proofs.write.write_control.Goals as goal
 
 pub returns-then-buf-lt2 : goal.returns-then-buf-lt2

@@ -2,9 +2,6 @@
 -- src/seen.rt:47:30
 use mathlib.Core.Path.{refl}
 use native.Mathlib.Omega.{arith}
-use Rattle.cycle.proofs.seen.Sent.index.Reads as reads
-use Rattle.cycle.proofs.seen.Sent.index.Lts as lts
-use Rattle.cycle.proofs.seen.index.Reads as index_Reads
 use Rattle.cycle.proofs.seen.Sent.index.Goals as goal
 
 -- src/seen.rt:43:5

@@ -1,9 +1,6 @@
 -- `is_clear` meets its contract: an arm for each operating state.
 -- src/state.rt:106:13
 use mathlib.Core.Path.{sym, ◌∙◌}
-use Rattle.cycle.proofs.state.DpMasterState.is_clear.Reads as reads
-use Rattle.cycle.proofs.state.DpMasterState.is_clear.Lts as lts
-use Rattle.cycle.proofs.state.OperatingState.of.Reads as of-reads
 use Rattle.cycle.proofs.state.DpMasterState.is_clear.Goals as goal
 
 -- src/state.rt:103:5
