@@ -64,8 +64,8 @@ module _ (marks : List Bool) where
       get_or marks i false ≡ true → i < length ps → idle seen.sent ≡ true → T (sends_fit (state_of p.station.state) p.station.diag_needed w)
       → SentTo marks (set ps i (station_is (visited_of w p.station) p)) (seen_by i w seen).sent
   visit_sent (Sends k) i seen ps o h e f = (o, rw (get_or-set_same ps i (station_is (visited_of (Sends k) (get_or ps i blank).station) (get_or ps i blank)) blank h) f)
-  visit_sent Drops i seen ps o h e f = idle_sent _ seen.sent e
-  visit_sent Skips i seen ps o h e f = idle_sent _ seen.sent e
+  visit_sent Drops i seen ps o h e f = idle_sent (set ps i (station_is (visited_of Drops (get_or ps i blank).station) (get_or ps i blank))) seen.sent e
+  visit_sent Skips i seen ps o h e f = idle_sent (set ps i (station_is (visited_of Skips (get_or ps i blank).station) (get_or ps i blank))) seen.sent e
 
 -- what all visits leave
 record Went (u : Parameters) (marks : List Bool) (ps : List Peripheral) (w : Swept) : Type 0 where
