@@ -21,6 +21,7 @@ use master::unit::DpMaster;
 use payloads::options::PeripheralOptions;
 use payloads::request::Request;
 use station::state::PeripheralEvent;
+use std::io;
 
 // The unit. Its pools are as long as the arrays in `main`: a call that is lent another length is refused as 2.
 fn parameters() -> Parameters {
@@ -96,37 +97,49 @@ fn payload<'a>(kind: Request, diagnosis: &'a [u8], weight: &'a [u8]) -> &'a [u8]
 }
 
 // A word and a number.
-fn say(word: &[u8], n: u8) {
-    io::write_all(1, word);
-    io::print_decimal(1, n as u64);
+fn say(rt: &impl Print, word: &[u8], n: u8) -> io::Result<()> {
+    rt.write_all(word)?;
+    print!(rt; "{n}")
 }
 
 // A line for a turn: what happened, and bytes, each after a space.
-fn line(turn: u8, what: &[u8], bytes: &[u8]) {
-    say(b"turn ", turn);
-    io::write_all(1, what);
+fn line(rt: &impl Print, turn: u8, what: &[u8], bytes: &[u8]) -> io::Result<()> {
+    say(rt, b"turn ", turn)?;
+    rt.write_all(what)?;
     for i in 0..bytes.len() {
-        say(b" ", bytes[i]);
+        say(rt, b" ", bytes[i])?;
     }
-    io::write_all(1, b"\n");
+    rt.write_all(b"\n")
 }
 
 // A line for each event that a sound balance gives. Only DataExchanged says that the image is new: then it is read, by the event's handle.
-fn report(m: DpMaster, answer: ReplyAnswer, turn: u8, inputs: &[u8]) {
+fn report(
+    rt: &impl Print,
+    m: DpMaster,
+    answer: ReplyAnswer,
+    turn: u8,
+    inputs: &[u8],
+) -> io::Result<()> {
     let event = answer.event;
     match event {
-        PeripheralEvent::Online => line(turn, b": Online", b""),
-        PeripheralEvent::Configured => line(turn, b": Configured", b""),
+        PeripheralEvent::Online => line(rt, turn, b": Online", b""),
+        PeripheralEvent::Configured => line(rt, turn, b": Configured", b""),
         PeripheralEvent::DataExchanged => {
             let image = access::images::pi_i(m, answer.handle, inputs);
-            line(turn, b": weight", image);
+            line(rt, turn, b": weight", image)
         }
-        _ => {}
+        _ => Ok(()),
     }
 }
 
 // After a turn: where it sent a request, the reply is handed in and reported. After the global control none comes.
-fn after(t: Turn, turn: u8, inputs: &mut [u8], diags: &mut [u8]) -> DpMaster {
+fn after(
+    rt: &impl Print,
+    t: Turn,
+    turn: u8,
+    inputs: &mut [u8],
+    diags: &mut [u8],
+) -> io::Result<DpMaster> {
     let m = t.master;
     let answer = t.answer;
     let sent = answer.transmission;
@@ -136,17 +149,17 @@ fn after(t: Turn, turn: u8, inputs: &mut [u8], diags: &mut [u8]) -> DpMaster {
         header,
     } = sent
     else {
-        return m;
+        return Ok(m);
     };
     let weight = weight(turn);
     let came = payload(kind, b"\x00\x0C\x00\x02\x12\x34", &weight);
     let r = m.receive_reply(header.da, telegram(kind), came, inputs, diags);
-    report(r.master, r.answer, turn, inputs);
-    r.master
+    report(rt, r.master, r.answer, turn, inputs)?;
+    Ok(r.master)
 }
 
 // The pools and the payload buffer are the caller's, and lent to the calls that need them. The unit goes in and comes back by value.
-fn main() {
+fn main(rt: HostRuntime) -> io::Result<()> {
     let mut setup = [0u8; 64];
     let mut inputs = [0u8; 16];
     let mut outputs = [0u8; 16];
@@ -162,11 +175,12 @@ fn main() {
         &mut outputs,
         &mut diags,
     );
-    say(b"add: number ", added.refusal);
-    io::write_all(1, b"\n");
+    say(&rt, b"add: number ", added.refusal)?;
+    rt.write_all(b"\n")?;
     let mut m = added.master.enter_operate();
     for turn in 1..=20 {
         let t = m.transmit_telegram(100 * (turn as u64), false, &setup, &outputs, &mut buf);
-        m = after(t, turn, &mut inputs, &mut diags);
+        m = after(&rt, t, turn, &mut inputs, &mut diags)?;
     }
+    Ok(())
 }

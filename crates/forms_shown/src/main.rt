@@ -2,7 +2,7 @@
 // `stdout` has what this writes, worked out from document 01.
 #![tactic(auto)]
 
-ghost use Rattle.std.specs.Prelude.{◌≤◌};
+ghost use Rattle.std.specs.Prelude.{◌≤◌, IfOk};
 
 use fdl::parameters::Parameters;
 use forms::listing::Listed;
@@ -10,15 +10,16 @@ use master::unit::DpMaster;
 use payloads::diagnosis::DiagnosticsInfo;
 use peripheral::record::Peripheral;
 use peripheral_set::{Entry, PeripheralHandle};
+use std::io;
 
 fn wide(n: u8) -> u64 {
     n as u64
 }
 
 // A word, and a number.
-fn say(word: &[u8], n: u64) {
-    io::write_all(1, word);
-    io::print_decimal(1, n);
+fn say(rt: &impl Print, word: &[u8], n: u64) -> io::Result<()> {
+    rt.write_all(word)?;
+    print!(rt; "{n}")
 }
 
 fn parameters() -> Parameters {
@@ -105,103 +106,110 @@ fn is_filler(e: Entry) -> bool {
 }
 
 // One entry: slot, address, and whether it is running.
-fn entry(e: Entry) {
-    say(b"slot ", wide(e.slot));
-    say(b", address ", wide(e.address));
+fn entry(rt: &impl Print, e: Entry) -> io::Result<()> {
+    say(rt, b"slot ", wide(e.slot))?;
+    say(rt, b", address ", wide(e.address))?;
     if e.running {
-        io::write_all(1, b", running\n");
-        return;
+        return rt.write_all(b", running\n");
     }
-    io::write_all(1, b"\n");
+    rt.write_all(b"\n")
 }
 
 // An entry of the list is written where it is counted; else 1 where it is still as it was.
-fn row(e: Entry, counted: bool) -> u64
-    ensures { result ≤ 1 }
+fn row(rt: &impl Print, e: Entry, counted: bool) -> io::Result<u64>
+    ensures { IfOk result (λ n. n ≤ 1) }
 {
     if counted {
-        entry(e);
-        return 0;
+        entry(rt, e)?;
+        return Ok(0);
     }
     if is_filler(e) {
-        return 1;
+        return Ok(1);
     }
-    0
+    Ok(0)
 }
 
 // The entries that are counted, and how many of the others are still as they were.
-fn rows(list: [Entry; 32], count: usize) {
+fn rows(rt: &impl Print, list: [Entry; 32], count: usize) -> io::Result<()> {
     let mut unchanged: u64 = 0;
     let mut i = 0;
     while i < 32 {
         let e = list[i];
-        unchanged += row(e, i < count);
+        unchanged += row(rt, e, i < count)?;
         i += 1;
     }
-    say(b"unchanged ", unchanged);
+    say(rt, b"unchanged ", unchanged)
 }
 
-// The number, the count, and what the whole list holds; whether the end of the line was written.
-fn tell_list(a: Listed, list: [Entry; 32]) -> bool {
-    say(b": number ", wide(a.refusal));
-    say(b", count ", a.count as u64);
-    io::write_all(1, b"\n");
-    rows(list, a.count);
-    io::write_all(1, b"\n")
+// The number, the count, and what the whole list holds; whether all of it was written, to the end of the line.
+fn tell_list(rt: &impl Print, a: Listed, list: [Entry; 32]) -> io::Result<()> {
+    say(rt, b": number ", wide(a.refusal))?;
+    say(rt, b", count ", a.count as u64)?;
+    rt.write_all(b"\n")?;
+    rows(rt, list, a.count)?;
+    rt.write_all(b"\n")
 }
 
 // `iter` on the first `room` entries of a list. It lends entries, so this is proved by a walk of its code, and does nothing else.
-fn listed(m: DpMaster, list: [Entry; 32], room: usize) -> bool
+fn listed(rt: &impl Print, m: DpMaster, list: [Entry; 32], room: usize) -> io::Result<()>
     requires { room ≤ 32 }
 {
     let mut l = list;
     let a = forms::listing::iter(m, &mut l[0..room]);
-    tell_list(a, l)
+    tell_list(rt, a, l)
 }
 
 // What `iter` answers and leaves, where the first `room` entries of a list of fillers are lent.
-fn report_list(m: DpMaster, room: usize)
+fn report_list(rt: &impl Print, m: DpMaster, room: usize) -> io::Result<()>
     requires { room ≤ 32 }
 {
     let f = filler();
     let list = [f; 32];
-    say(b"list of ", room as u64);
-    listed(m, list, room);
+    say(rt, b"list of ", room as u64)?;
+    listed(rt, m, list, room)
 }
 
 // The bytes of a part, each after a space.
-fn bytes(part: &[u8]) {
+fn bytes(rt: &impl Print, part: &[u8]) -> io::Result<()> {
     let mut i = 0;
     while i < part.len() {
-        say(b" ", wide(part[i]));
+        say(rt, b" ", wide(part[i]))?;
         i += 1;
     }
+    Ok(())
 }
 
-// The numbers and the part, as a record has them; whether the end of the line was written.
-fn tell_record(flags: u16, ident_number: u16, master_address: u8, held: bool, part: &[u8]) -> bool {
+// The numbers and the part, as a record has them; whether all of it was written, to the end of the line.
+fn tell_record(
+    rt: &impl Print,
+    flags: u16,
+    ident_number: u16,
+    master_address: u8,
+    held: bool,
+    part: &[u8],
+) -> io::Result<()> {
     if held {
-        io::write_all(1, b", held");
+        rt.write_all(b", held")?;
     } else {
-        io::write_all(1, b", none");
+        rt.write_all(b", none")?;
     }
-    say(b", flags ", flags as u64);
-    say(b", ident ", ident_number as u64);
-    say(b", master ", wide(master_address));
-    io::write_all(1, b", part");
-    bytes(part);
-    io::write_all(1, b"\n")
+    say(rt, b", flags ", flags as u64)?;
+    say(rt, b", ident ", ident_number as u64)?;
+    say(rt, b", master ", wide(master_address))?;
+    rt.write_all(b", part")?;
+    bytes(rt, part)?;
+    rt.write_all(b"\n")
 }
 
 // The record is made and read. It holds a reference, so this is proved by a walk of its code, and does nothing else.
-fn show(m: DpMaster, handle: PeripheralHandle, diags: &[u8]) -> bool {
+fn show(rt: &impl Print, m: DpMaster, handle: PeripheralHandle, diags: &[u8]) -> io::Result<()> {
     let d = forms::diagnosis::last_diagnostics(m, handle, diags);
     let part = forms::diagnosis::extended(d);
-    tell_record(d.flags, d.ident_number, d.master_address, d.held, part)
+    tell_record(rt, d.flags, d.ident_number, d.master_address, d.held, part)
 }
 
 // The number, and then the record, of the balance in a slot, where the first `room` bytes of the pool are lent.
-fn report_diagnosis(m: DpMaster, slot: u8, room: usize)
+fn report_diagnosis(rt: &impl Print, m: DpMaster, slot: u8, room: usize) -> io::Result<()>
     requires { room ≤ 8 }
 {
     let pool = diags();
@@ -210,20 +218,21 @@ fn report_diagnosis(m: DpMaster, slot: u8, room: usize)
         address: 0,
     };
     let lent = &pool[0..room];
-    say(b"diagnosis of ", wide(slot));
+    say(rt, b"diagnosis of ", wide(slot))?;
     say(
+        rt,
         b": number ",
         wide(forms::diagnosis::last_diagnostics_refusal(m, handle, lent)),
-    );
-    show(m, handle, lent);
+    )?;
+    show(rt, m, handle, lent)
 }
 
-fn main() {
+fn main(rt: HostRuntime) -> io::Result<()> {
     let m = with_gaps();
-    report_list(m, 32);
-    report_list(m, 31);
-    report_diagnosis(m, 3, 8);
-    report_diagnosis(m, 0, 8);
-    report_diagnosis(m, 1, 8);
-    report_diagnosis(m, 3, 7);
+    report_list(&rt, m, 32)?;
+    report_list(&rt, m, 31)?;
+    report_diagnosis(&rt, m, 3, 8)?;
+    report_diagnosis(&rt, m, 0, 8)?;
+    report_diagnosis(&rt, m, 1, 8)?;
+    report_diagnosis(&rt, m, 3, 7)
 }

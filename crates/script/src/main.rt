@@ -2,13 +2,12 @@
 // What a line does is decided in `driver`, with exact contracts; here the lines are read, handed on, and answered.
 #![tactic(auto)]
 
-ghost use Rattle.std.specs.Prelude.{◌≡◌, ◌<◌, length};
+ghost use Rattle.std.specs.Prelude.{◌≡◌, ◌<◌, IfOk, length};
 ghost use Rattle.script_driver.specs.Room.{next_at};
 
 use cycle::state::OperatingState;
 use fdl::parameters::Parameters;
 use fdl::telegram::Telegram;
-use libc::{STDIN_FILENO, STDOUT_FILENO};
 use master::add::Addition;
 use master::unit::DpMaster;
 use peripheral_set::PeripheralHandle;
@@ -17,6 +16,7 @@ use script_driver::pieces::Partial;
 use script_driver::room::LONGEST;
 use script_driver::run::Run;
 use script_lines::{Call, Lent};
+use std::io::{self, Read};
 
 // What a line leaves, and where the next answer goes.
 #[derive(Clone, Copy)]
@@ -411,23 +411,24 @@ struct Work {
 const OUTPUT: usize = 4 * LONGEST;
 
 // Writes what waits.
-fn flush(out: &[u8], at: usize) {
-    io::write_all(STDOUT_FILENO, parts::part(out, 0, at));
+fn flush(rt: &impl Print, out: &[u8], at: usize) -> io::Result<()> {
+    rt.write_all(parts::part(out, 0, at))
 }
 
 // Writes what waits where there is no room behind it for every answer, and answers where the next one goes.
-fn flushed(out: &[u8], at: usize) -> usize
-    ensures { result ≡ next_at (length out.now) at }
+fn flushed(rt: &impl Print, out: &[u8], at: usize) -> io::Result<usize>
+    ensures { IfOk result (λ n. n ≡ next_at (length out.now) at) }
 {
     let next = script_driver::room::next_at(out.len(), at);
     if next < at {
-        flush(out, at);
+        flush(rt, out, at)?;
     }
-    next
+    Ok(next)
 }
 
 // A piece of a line; where it ends the line, that is answered.
 fn piece(
+    rt: &impl Print,
     w: Work,
     part: &[u8],
     ended: bool,
@@ -439,17 +440,17 @@ fn piece(
     list: &mut [u8],
     text: &mut [u8],
     out: &mut [u8],
-) -> Work {
+) -> io::Result<Work> {
     let unit = w.run;
     let p = script_driver::pieces::append(w.line, part, text);
     if !ended {
-        return Work {
+        return Ok(Work {
             run: unit,
             line: p,
             at: w.at,
-        };
+        });
     }
-    let start = flushed(out, w.at);
+    let start = flushed(rt, out, w.at)?;
     let s = line(
         unit,
         parts::part(text, 0, p.filled),
@@ -468,15 +469,16 @@ fn piece(
         filled: 0,
         long: false,
     };
-    Work {
+    Ok(Work {
         run: after,
         line: none,
         at: s.at,
-    }
+    })
 }
 
 // The lines that end in a chunk, and the piece behind them.
 fn lines_of(
+    rt: &impl Print,
     chunk: &[u8],
     w: Work,
     setup: &mut [u8],
@@ -487,12 +489,13 @@ fn lines_of(
     list: &mut [u8],
     text: &mut [u8],
     out: &mut [u8],
-) -> Work {
+) -> io::Result<Work> {
     let mut work = w;
     let mut i = 0;
     while i < chunk.len() {
         let end = script_driver::pieces::line_end(chunk, i);
         work = piece(
+            rt,
             work,
             parts::part(chunk, i, end - i),
             end < chunk.len(),
@@ -504,16 +507,15 @@ fn lines_of(
             list,
             text,
             out,
-        );
+        )?;
         i = end + 1;
     }
-    work
+    Ok(work)
 }
 
 // Reads a chunk, and answers how many bytes came.
-fn read_some(chunk: &mut [u8]) -> usize {
-    let got = libc::read(STDIN_FILENO, chunk);
-    io::count(got, chunk)
+fn read_some(reader: &mut impl Read, chunk: &mut [u8]) -> io::Result<usize> {
+    reader.read(chunk)
 }
 
 // A proved loop has to end, so it counts its turns down, from a number that no run uses up; none are left where no byte came.
@@ -528,18 +530,19 @@ fn left(turns: u64, came: usize) -> u64
 }
 
 // Writes what waits; an unfinished last line is no call.
-fn finish(p: Partial, out: &mut [u8], at: usize) {
+fn finish(rt: &impl Print, p: Partial, out: &mut [u8], at: usize) -> io::Result<()> {
     if script_driver::pieces::unfinished(p) {
-        let start = flushed(out, at);
+        let start = flushed(rt, out, at)?;
         let end = script_answers::bare(out, start, b'?');
-        flush(out, end);
-        return;
+        return flush(rt, out, end);
     }
-    flush(out, at);
+    flush(rt, out, at)
 }
 
 // The whole input.
 fn all(
+    rt: &impl Print,
+    reader: &mut impl Read,
     setup: &mut [u8],
     inputs: &mut [u8],
     outputs: &mut [u8],
@@ -549,7 +552,7 @@ fn all(
     text: &mut [u8],
     chunk: &mut [u8],
     out: &mut [u8],
-) {
+) -> io::Result<()> {
     let start = Run::empty();
     let none = Partial {
         filled: 0,
@@ -562,8 +565,16 @@ fn all(
     };
     let mut turns = u64::MAX;
     while turns > 0 {
-        let n = read_some(chunk);
+        let n = match read_some(reader, chunk) {
+            Ok(n) => n,
+            // where a read fails, the input ends: what waits is written before the error goes up
+            Err(e) => {
+                finish(rt, w.line, out, w.at)?;
+                return Err(e);
+            }
+        };
         w = lines_of(
+            rt,
             parts::part(chunk, 0, n),
             w,
             setup,
@@ -574,13 +585,13 @@ fn all(
             list,
             text,
             out,
-        );
+        )?;
         turns = left(turns, n);
     }
-    finish(w.line, out, w.at);
+    finish(rt, w.line, out, w.at)
 }
 
-fn main() {
+fn main(rt: HostRuntime) -> io::Result<()> {
     let mut setup = [0u8; 16400];
     let mut inputs = [0u8; 16400];
     let mut outputs = [0u8; 16400];
@@ -592,6 +603,8 @@ fn main() {
     let mut chunk = [0u8; 65536];
     let mut out = [0u8; OUTPUT];
     all(
+        &rt,
+        &mut rt.stdin(),
         &mut setup,
         &mut inputs,
         &mut outputs,
@@ -601,5 +614,5 @@ fn main() {
         &mut text,
         &mut chunk,
         &mut out,
-    );
+    )
 }

@@ -19,13 +19,13 @@
 mod balance;
 mod total;
 
-ghost use Rattle.std.specs.Prelude.{◌<◌};
+ghost use Rattle.std.specs.Prelude.{◌<◌, ◌≤◌, IfOk, length};
 
 use crate::balance::Answer;
 use answers::turn::Transmission;
-use libc::{STDIN_FILENO, STDOUT_FILENO};
 use master::unit::DpMaster;
 use peripheral_set::PeripheralHandle;
+use std::io::{self, Read};
 
 // The unit and the sum so far.
 #[derive(Clone, Copy)]
@@ -290,10 +290,25 @@ fn trimmed(s: &[u8]) -> &[u8] {
     parts::part(s, 0, s.len())
 }
 
-fn main() {
-    let mut buf = io::buffer();
-    let n = io::read_full(STDIN_FILENO, &mut buf);
+// Reads until the buffer is full or the input ends, and answers how many bytes came.
+fn read_full(reader: &mut impl Read, buf: &mut [u8]) -> io::Result<usize>
+    ensures { IfOk result (λ n. n ≤ length buf.new) }
+{
+    let mut done = 0;
+    while done < buf.len() {
+        let n = reader.read(&mut buf[done..])?;
+        if n == 0 {
+            break;
+        }
+        done += n;
+    }
+    Ok(done)
+}
+
+fn main(rt: HostRuntime) -> io::Result<()> {
+    let mut buf = [0u8; 4096];
+    let n = read_full(&mut rt.stdin(), &mut buf)?;
     let mut text = [0u8; 64];
     let end = line(trimmed(parts::part(&buf, 0, n)), &mut text);
-    io::write_all(STDOUT_FILENO, parts::part(&text, 0, end));
+    rt.write_all(parts::part(&text, 0, end))
 }

@@ -12,6 +12,7 @@ use access::lookup::find;
 use answers::turn::Transmission;
 use fdl::telegram::Telegram;
 use peripheral_set::PeripheralHandle;
+use std::io;
 
 const ADDRESS: u8 = 8;
 
@@ -205,7 +206,7 @@ fn is_payload(t: Seen, expected: &[u8]) -> bool {
         return false;
     }
     let payload = t.payload;
-    check::same(parts::part(&payload, 0, expected.len()), expected)
+    parts::part(&payload, 0, expected.len()) == expected
 }
 
 // 1: watchdog 2, 5, Tsdr 11, ident 0x1234, groups 0, user 00 01 02.
@@ -486,32 +487,30 @@ fn clear_zeros() -> bool {
     is_payload(t, &[0u8; 2])
 }
 
-fn report(number: u8, ok: bool) {
-    io::print_decimal(1, number as u64);
+fn report(rt: &impl Print, number: u8, ok: bool) -> io::Result<()> {
     if ok {
-        io::write_all(1, b" ok\n");
-        return;
+        return println!(rt; "{number} ok");
     }
-    io::write_all(1, b" bad\n");
+    println!(rt; "{number} bad")
 }
 
-fn main() {
-    report(1, parameter_bytes());
-    report(2, clean_diagnosis());
-    report(3, asks_for_parameters());
-    report(4, short_diagnosis());
-    report(5, parameter_error());
-    report(6, wrong_length());
-    report(7, no_data());
-    report(8, control_due());
-    report(9, silent_set_up());
-    report(10, silent_offline());
-    report(11, empty_image());
-    report(12, one_byte_image());
-    report(13, full_table());
-    report(14, long_parameters());
-    report(15, highest_limit());
-    report(16, two_offline());
-    report(17, clear_signal());
-    report(18, clear_zeros());
+fn main(rt: HostRuntime) -> io::Result<()> {
+    report(&rt, 1, parameter_bytes())?;
+    report(&rt, 2, clean_diagnosis())?;
+    report(&rt, 3, asks_for_parameters())?;
+    report(&rt, 4, short_diagnosis())?;
+    report(&rt, 5, parameter_error())?;
+    report(&rt, 6, wrong_length())?;
+    report(&rt, 7, no_data())?;
+    report(&rt, 8, control_due())?;
+    report(&rt, 9, silent_set_up())?;
+    report(&rt, 10, silent_offline())?;
+    report(&rt, 11, empty_image())?;
+    report(&rt, 12, one_byte_image())?;
+    report(&rt, 13, full_table())?;
+    report(&rt, 14, long_parameters())?;
+    report(&rt, 15, highest_limit())?;
+    report(&rt, 16, two_offline())?;
+    report(&rt, 17, clear_signal())?;
+    report(&rt, 18, clear_zeros())
 }
