@@ -10,7 +10,7 @@ use prog.Routine.{Routine}
 use types.Logic.{Logic}
 use contract.Lifetimes.{Lfts}
 use contract.Monad.{Fun, fact}
-use denote.Ref.{Bor}
+use denote.Ref.{Bor, MutBor}
 use Rattle.parts.specs.Parts.{SamePart}
 use Rattle.parts.proofs.Laws.{itself_same}
 use Rattle.peripheral_set.specs.declared.Entry.{Entry}
@@ -50,7 +50,7 @@ extended_coincides d r r' one two = one ∙ sym two
 -- ---- these are what the contracts say
 
 module _ {M : Type 1} {𝓤 : Ura M} (𝓛 : Logic 𝓤) (mem : Memory → SProp 𝓤) (run : Routine → Fun 𝓤) (κs : Lfts 1) where
-  pub iter_says : (m : DpMaster) (list last : Bor (List Entry)) (r : Listed)
+  pub iter_says : (m : DpMaster) (list last : MutBor (List Entry)) (r : Listed)
       → iter.ensures-1 𝓛 κs mem run m list (record { entry = m; exit = m }) (record { entry = list; exit = last }) r ≡ fact 𝓤 (Iterated m list.now last.now r)
   iter_says m list last r = refl
 

@@ -1,7 +1,7 @@
 -- Bits of a mask, over any width.
 -- The idea: a bit is a quotient's remainder, and an or goes bit by bit.
-use mathlib.Core.Path.{◌≡◌, refl, sym, ◌∙◌}
-use Prim.Native.Nat.{ℕ, suc, ◌+◌, ◌-◌, ◌*◌, ◌/◌, ◌%◌, ◌<◌, ◌^◌, max}
+use mathlib.Core.Path.{◌≡◌}
+use Prim.Native.Nat.{ℕ, suc, ◌+◌, ◌-◌, ◌/◌, ◌%◌, ◌<◌, ◌^◌, max}
 use native.Mathlib.Omega.{arith}
 use native.Mathlib.Nat.{mod-eq_of_lt, div_self, div-eq_of_lt, mul-div_cancel, mul-add-mod_self_right, mul-mod_left, pow-suc}
 use lib.Pow.{pow_pos, pow-lt, pow-add}

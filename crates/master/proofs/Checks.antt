@@ -8,7 +8,7 @@ use lib.Dec.{eqb}
 use borrow.Author.Tests.{eqb-true, leb-true, not-false}
 use Rattle.parts.proofs.Laws.{by_test}
 use Rattle.refusals.specs.Table.{or_else}
-use Rattle.refusals.proofs.Laws.{passed, passed_from, both}
+use Rattle.refusals.proofs.Laws.{passed, both}
 use Rattle.fdl.specs.declared.parameters.Parameters.{Parameters}
 use Rattle.peripheral.specs.declared.record.Peripheral.{Peripheral}
 use Rattle.peripheral_set.specs.declared.PeripheralHandle.{PeripheralHandle}

@@ -1,5 +1,5 @@
 -- A call that answers a number: refused, or done.
-use mathlib.Core.Path.{◌≡◌, refl, sym, ap, ◌∙◌}
+use mathlib.Core.Path.{◌≡◌, refl}
 use Prim.Native.Nat.{ℕ}
 use borrow.Author.Tests.{ne_eqb}
 use Rattle.master.specs.declared.unit.DpMaster.{DpMaster}

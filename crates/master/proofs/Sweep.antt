@@ -2,7 +2,7 @@
 -- The idea: an empty slot is passed, an occupied one is visited, and after one that sent nothing more happens;
 -- so going from occupied slot to occupied slot is the same as going slot by slot.
 use mathlib.Core.Path.{◌≡◌, refl, sym, ap, ◌∙◌}
-use mathlib.Core.Bool.{Bool, true, false, ◌&&◌, false≢true, cond}
+use mathlib.Core.Bool.{Bool, true, false, ◌&&◌, cond}
 use mathlib.Core.List.{List}
 use Prim.Native.Nat.{ℕ, zero, suc, ◌+◌, ◌-◌, ◌≤◌, ◌<◌}
 use native.Mathlib.Omega.{arith}
@@ -14,7 +14,7 @@ use Rattle.peripheral.specs.declared.record.Peripheral.{Peripheral}
 use Rattle.peripheral.specs.declared.visit.Visit.{Visit}
 use Rattle.peripheral.specs.Record.{blank}
 use Rattle.peripheral.specs.Visit.{visit_action, visited_by, visit_of}
-use Rattle.peripheral_set.specs.Marks.{slots, same_mark, search_from, next_after}
+use Rattle.peripheral_set.specs.Marks.{slots, search_from}
 use Rattle.peripheral_set.proofs.Laws.{search_found, search-from}
 use Rattle.cycle.specs.declared.seen.Seen.{Seen}
 use Rattle.cycle.specs.declared.seen.Sent.{Sent}

@@ -1,9 +1,9 @@
 -- What the judged reply keeps, put together to what the whole reply leaves in the pools.
 -- The idea: only the answer to a data request keeps an image, and then what came is exactly the front of the payload; only a taken diagnosis keeps a part.
 use mathlib.Core.Path.{◌≡◌, refl, sym, ap, ◌∙◌}
-use mathlib.Core.Bool.{true, false, ◌&&◌, false≢true}
+use mathlib.Core.Bool.{true, ◌&&◌, false≢true}
 use mathlib.Core.List.{List, []}
-use Prim.Native.Nat.{ℕ, ◌+◌, ◌-◌, ◌<◌}
+use Prim.Native.Nat.{ℕ, ◌+◌, ◌<◌}
 use native.Mathlib.Omega.{arith}
 use lib.ListN.{length, take-append-drop, drop_of_length-le}
 use lib.Dec.{eqb}

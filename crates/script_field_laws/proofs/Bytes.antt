@@ -1,17 +1,16 @@
 -- Bytes that were written are read back: `bytes_back`, and what stands in the array then, `array_back`.
 -- The idea: a byte is its two digits, and each digit is worth what it was made of.
-use mathlib.Core.Path.{◌≡◌, refl, sym, ap, ◌∙◌, subst}
-use mathlib.Core.Bool.{Bool, true, false, false≢true, ◌&&◌, cond}
+use mathlib.Core.Path.{◌≡◌, refl, ap, ◌∙◌, subst}
+use mathlib.Core.Bool.{Bool, true, false, false≢true, cond}
 use mathlib.Core.List.{List, [], ◌∷◌, ◌++◌}
-use Prim.Native.Nat.{ℕ, zero, suc, ◌+◌, ◌-◌, ◌*◌, ◌/◌, ◌%◌, ◌≤◌, ◌<◌}
+use Prim.Native.Nat.{ℕ, zero, suc, ◌+◌, ◌*◌, ◌/◌, ◌%◌, ◌≤◌, ◌<◌}
 use native.Mathlib.Omega.{arith}
-use lib.ListN.{length, get_or, drop}
-use lib.Dec.{ltb, leb, eqb}
+use lib.ListN.{length}
+use lib.Dec.{ltb, eqb}
 use borrow.Author.Tests.{lt-ltb, le-ltb, le-leb, lt-leb, ltb-true, ltb-false, ne_eqb}
 use Rattle.parts.proofs.Laws.{by_test}
-use Rattle.script_fields.specs.declared.read.BytesField.{BytesField}
 use Rattle.script_fields.specs.Write.{hex_digit, hex_text, bytes_text}
-use Rattle.script_fields.specs.Read.{right, has_at, space_at, is_digit, most, hex_worth, is_pair, pairs_of, pairs_on, pairs_at, some_bytes, bytes_on, bytes_at}
+use Rattle.script_fields.specs.Read.{right, has_at, is_digit, most, hex_worth, is_pair, pairs_of, pairs_on, pairs_at, some_bytes, bytes_on, bytes_at}
 use Rattle.script_field_laws.specs.Text.{Holds, all_bytes}
 use Rattle.script_field_laws.proofs.Places.{has_there, behind_it, space_there}
 

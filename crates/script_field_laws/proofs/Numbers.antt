@@ -6,13 +6,11 @@ use mathlib.Core.List.{List, [], ◌∷◌, ◌++◌, append_assoc}
 use Prim.Native.Nat.{ℕ, zero, suc, ◌+◌, ◌-◌, ◌*◌, ◌/◌, ◌%◌, ◌≤◌, ◌<◌}
 use native.Mathlib.Omega.{arith}
 use lib.ListN.{length, get_or, drop, length-append, get_or-append}
-use lib.Dec.{ltb, leb, eqb}
-use borrow.Author.Tests.{lt-ltb, le-ltb, le-leb, lt-leb, ltb-true, ltb-false, eq-eqb, ne_eqb}
+use lib.Dec.{ltb, eqb}
+use borrow.Author.Tests.{le-leb, ltb-true, ltb-false, ne_eqb}
 use Rattle.parts.proofs.Laws.{by_test}
-use Rattle.script_fields.specs.declared.read.Cursor.{Cursor}
-use Rattle.script_fields.specs.declared.read.U64Field.{U64Field}
 use Rattle.script_fields.specs.Write.{digit_of, decimal_in, decimal}
-use Rattle.script_fields.specs.Read.{right, has_at, space_at, found, no_number, is_digit, digits_from, number_from, number_on, number_at}
+use Rattle.script_fields.specs.Read.{right, has_at, found, is_digit, digits_from, number_from, number_on, number_at}
 use Rattle.script_field_laws.specs.Text.{Holds, no_digit, tens}
 use Rattle.script_field_laws.proofs.Places.{has_there, byte_there, behind_it, space_there}
 

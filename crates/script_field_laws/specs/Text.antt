@@ -1,6 +1,6 @@
 -- What a line holds at a place, and what stops a reader there. From docs/SCRIPTS.md, "Fields".
-use Rattle.std.specs.Prelude.{◌≡◌, ℕ, zero, suc, ◌*◌, ◌<◌, Bool, true, false, cond, List, [], ◌∷◌, ◌++◌, drop, ltb}
-use Rattle.script_fields.specs.Read.{is_digit, is_pair}
+use Rattle.std.specs.Prelude.{◌≡◌, ℕ, zero, suc, ◌*◌, Bool, true, false, cond, List, [], ◌∷◌, ◌++◌, drop, ltb}
+use Rattle.script_fields.specs.Read.{is_digit}
 
 -- from the place at on, the line s has a space, the text w, and then rest
 abbrev pub Holds : List ℕ → ℕ → List ℕ → List ℕ → Type 0

@@ -1,16 +1,13 @@
 -- The laws of reading and writing that the proofs here cite.
 -- The idea: a loop's invariant says that what is left to do gives the whole, so each law is one step of a definition, at any place of a list.
 use mathlib.Core.Path.{◌≡◌, refl, sym, ap, ◌∙◌, subst}
-use mathlib.Core.Bool.{Bool, true, false, ◌&&◌, cond}
 use mathlib.Core.List.{List, [], ◌∷◌, ◌++◌}
-use Prim.Native.Nat.{ℕ, zero, suc, ◌+◌, ◌-◌, ◌*◌, ◌/◌, ◌%◌, ◌≤◌, ◌<◌}
+use Prim.Native.Nat.{ℕ, zero, suc, ◌+◌, ◌-◌, ◌/◌, ◌%◌, ◌≤◌, ◌<◌}
 use native.Mathlib.Numerals.{add-one}
 use native.Mathlib.Omega.{arith}
-use lib.ListN.{length, get_or, drop, set, length-set, drop_of_length-le}
+use lib.ListN.{length, get_or, drop, set, drop_of_length-le}
 use lib.Seq.{drop-cons}
-use lib.Dec.{ltb}
 use borrow.Author.Tests.{lt-ltb, le-ltb}
-use Rattle.parts.proofs.Laws.{by_test}
 use Rattle.script_fields.specs.Write.{Out, standing, put, written, field_text, fields_text, hex_digit, hex_text, bytes_text, decimal_in, digit_of, sum_from, sum_step}
 
 -- ---- lists

@@ -1,7 +1,7 @@
 -- The laws of the readers: each definition, case by case, over plain numbers and flags.
 -- The idea: a reader's tests are handed to these laws as equations, and what a place of the line holds is one argument.
 use mathlib.Core.Path.{◌≡◌, refl, sym, ap, ◌∙◌, subst}
-use mathlib.Core.Bool.{Bool, true, false, ◌&&◌, and-false, cond}
+use mathlib.Core.Bool.{Bool, true, false, and-false}
 use mathlib.Core.List.{List, [], ◌∷◌}
 use Prim.Native.Nat.{ℕ, zero, suc, ◌+◌, ◌-◌, ◌*◌, ◌≤◌, ◌<◌}
 use native.Mathlib.Numerals.{add-one}
@@ -9,7 +9,7 @@ use native.Mathlib.Omega.{arith}
 use lib.ListN.{length, get_or, drop, set, length-drop}
 use lib.Seq.{sets, drop-drop, get_or-drop}
 use lib.Dec.{ltb, leb, eqb}
-use borrow.Author.Tests.{lt-ltb, le-ltb, le-leb, lt-leb, ltb-true, ltb-false, leb-true, eqb-true}
+use borrow.Author.Tests.{lt-ltb, le-ltb, le-leb, lt-leb, ltb-true, ltb-false, leb-true}
 use Rattle.parts.proofs.Laws.{by_test, and_left, and_right}
 use Rattle.script_fields.specs.declared.read.Cursor.{Cursor}
 use Rattle.script_fields.specs.declared.read.U64Field.{U64Field}
