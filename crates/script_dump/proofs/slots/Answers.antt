@@ -19,12 +19,12 @@ pub loop-i-preserved : goal.loop-i-preserved
 loop-i-preserved c = let i = c.loop-i.i in (
   omega arith,
   c.slot_if-next.auto.out ∙ c.loop-i.invariant.1,
-  left_to_write (slots_from (slot_count - i) c.args.all c.args.all i) (slot_if (get_or c.args.all i false) i (get_or c.args.all i blank)) (slots_from (slot_count - (i + 1)) c.args.all c.args.all (i + 1)) (standing c.loop-i.next c.loop-i.out) _ _
-      (slots_next slot_count c.args.all c.args.all i c.loop-i-test.true) c.slot_if-next.ensures c.loop-i.invariant.2,
+  left_to_write (slots_from (slot_count - i) c.args.marks c.args.all i) (slot_if (get_or c.args.marks i false) i (get_or c.args.all i blank)) (slots_from (slot_count - (i + 1)) c.args.marks c.args.all (i + 1)) (standing c.loop-i.next c.loop-i.out) _ _
+      (slots_next slot_count c.args.marks c.args.all i c.loop-i-test.true) c.slot_if-next.ensures c.loop-i.invariant.2,
 )
 
 pub shape_of-out : goal.shape_of-out
 shape_of-out c = c.loop-i.invariant.1
 
 pub returns : goal.returns
-returns c = all_written (slots_from (slot_count - c.loop-i.i) c.args.all c.args.all c.loop-i.i) _ _ (slots_end slot_count c.args.all c.args.all c.loop-i.i c.loop-i-test.false) c.loop-i.invariant.2
+returns c = all_written (slots_from (slot_count - c.loop-i.i) c.args.marks c.args.all c.loop-i.i) _ _ (slots_end slot_count c.args.marks c.args.all c.loop-i.i c.loop-i-test.false) c.loop-i.invariant.2
