@@ -19,7 +19,7 @@ use Rattle.master.specs.Unit.{empty_unit, created_of}
 use Rattle.master.specs.Add.{refusal_of}
 use Rattle.master.specs.Turn.{sweep_from, swept_by, turn_payload, turn_answer}
 use Rattle.master.specs.Receive.{reply_at}
-use Rattle.log.specs.Calls.{step}
+use Rattle.call_log.specs.Calls.{step}
 use Rattle.trial_table.specs.Table.{table, line_of, marked, expected_in}
 
 pub rows_hold : map line_of table ≡ expected_in marked table

@@ -6,7 +6,7 @@ use Rattle.fdl.specs.declared.telegram.Telegram.{Telegram}
 use Rattle.fdl.specs.declared.telegram.Telegram.TheVariants.{ShortConfirmation, Data}
 use Rattle.station.specs.declared.state.PeripheralState.TheVariants.{Offline, WaitForParam, ValidateConfig, PreDataExchange, DataExchange}
 use Rattle.cycle.specs.declared.state.OperatingState.TheVariants.{Clear}
-use Rattle.log.specs.Calls.{enter}
+use Rattle.call_log.specs.Calls.{enter}
 use Rattle.trial_table.specs.Trial.{trial_turn, answers, Trial, Reported, Number, Turned, Heard, outcomes_of}
 
 pub record TrialRow : Type 0 where

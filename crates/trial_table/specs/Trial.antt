@@ -16,8 +16,8 @@ use Rattle.answers.specs.declared.turn.Transmission.TheVariants.{Nothing, Contro
 use Rattle.master.specs.Unit.{balance_at}
 use Rattle.master.specs.Handle.{balance_is}
 use Rattle.master.specs.Pools.{Pools}
-use Rattle.log.specs.Calls.{World, Call, add, enter, turn, reply, Answer, number, added, turned, replied, refusal, accepted, Outcome as Done, step}
-use Rattle.log.specs.Run.{run}
+use Rattle.call_log.specs.Calls.{World, Call, add, enter, turn, reply, Answer, number, added, turned, replied, refusal, accepted, Outcome as Done, step}
+use Rattle.call_log.specs.Run.{run}
 
 -- ---- the bench of every trial: the watchdog, Tsdr, ident and groups of the first, the slot time of the eighth, the outputs of the last two
 
