@@ -102,7 +102,7 @@ pub data Allowed (w : World) : Call → Outcome → Type 0 where
   by_pi_q_mut : (κs : Lfts 1) (a : Dens κs K·hand.ps) (z : (res_t K·hand.r κs).Denot) (e : AtExit (ended_of 1 K·hand.ps K·hand.r) κs) → R·hand.Learnt κs a z e
       → (λs : Lfts 1) (b : Dens λs K·number.ps) (n : (res_t K·number.r λs).Denot) (f : AtExit (ended_of 1 K·number.ps K·number.r) λs) → R·number.Learnt λs b n f
       → (nq k : ℕ) (bytes : List ℕ) → w.unit ≡ a.0 → w.unit ≡ b.0 → b.1.0 ≡ a.1.0 → lend nq w.pools.outputs ≡ a.1.1.0.now → lend nq w.pools.outputs ≡ b.1.1.0.now
-      → z.ref_ptr.1 ≡ a.1.1.0.ptr.1 + k → length bytes ≡ length z.now
+      → z.ref_ptr.1 ≡ a.1.1.0.ref_ptr.1 + k → length bytes ≡ length z.now
       → Allowed w (hand a.1.0 bytes nq) (record { world = outputs_are (back nq (splice k bytes (lend nq w.pools.outputs)) w.pools.outputs) w; answer = number n })
 
 -- what `pi_i` hands out of the inputs of w, and what it was lent of them
