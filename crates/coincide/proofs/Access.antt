@@ -1,6 +1,7 @@
 -- Any two results that a contract of `access` allows coincide: a statement for each public function.
 -- The idea: a contract is an equation for the answer and for each lent buffer, so two of them have the same right-hand side.
 use mathlib.Core.Path.{◌≡◌}
+use denote.MutBor.{as_bor}
 use Rattle.parts.specs.Parts.{SamePart}
 use Rattle.parts.proofs.Laws.{itself_same}
 use Rattle.coincide.specs.Coincide.{Coincide}
@@ -61,7 +62,7 @@ images_pi_q_refusal κs a z y e f p q = same p q
 pub images_pi_q : Coincide 1 K·images-pi-q.ps K·images-pi-q.r R·images-pi-q.Learnt (λ κs z y e f. SamePart z y)
 images_pi_q κs a z y e f p q = itself_same p q
 
-pub images_pi_q_mut : Coincide 1 K·images-pi-q-mut.ps K·images-pi-q-mut.r R·images-pi-q-mut.Learnt (λ κs z y e f. SamePart z y)
+pub images_pi_q_mut : Coincide 1 K·images-pi-q-mut.ps K·images-pi-q-mut.r R·images-pi-q-mut.Learnt (λ κs z y e f. SamePart (as_bor z) (as_bor y))
 images_pi_q_mut κs a z y e f p q = itself_same p q
 
 pub images_pi_q_range : Coincide 1 K·images-pi-q-range.ps K·images-pi-q-range.r R·images-pi-q-range.Learnt (λ κs z y e f. z ≡ y)

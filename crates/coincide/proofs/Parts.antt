@@ -1,6 +1,7 @@
 -- Any two results that a contract of `parts` allows coincide: a statement for each public function.
 -- The idea: a contract is an equation for the answer and for each lent buffer, so two of them have the same right-hand side.
 use mathlib.Core.Path.{◌≡◌}
+use denote.MutBor.{as_bor}
 use Rattle.parts.specs.Parts.{SamePart}
 use Rattle.parts.proofs.Laws.{itself_same}
 use Rattle.coincide.specs.Coincide.{Coincide}
@@ -43,5 +44,5 @@ clear_at κs a z y e f p q = (same p.answer q.answer, same p.bytes q.bytes)
 pub part : Coincide 1 K·part.ps K·part.r R·part.Learnt (λ κs z y e f. SamePart z y)
 part κs a z y e f p q = itself_same p q
 
-pub part_mut : Coincide 1 K·part-mut.ps K·part-mut.r R·part-mut.Learnt (λ κs z y e f. SamePart z y)
+pub part_mut : Coincide 1 K·part-mut.ps K·part-mut.r R·part-mut.Learnt (λ κs z y e f. SamePart (as_bor z) (as_bor y))
 part_mut κs a z y e f p q = itself_same p q

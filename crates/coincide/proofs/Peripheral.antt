@@ -1,6 +1,7 @@
 -- Any two results that a contract of `peripheral` allows coincide: a statement for each public function.
 -- The idea: a contract is an equation for the answer and for each lent buffer, so two of them have the same right-hand side.
 use mathlib.Core.Path.{◌≡◌}
+use denote.MutBor.{as_bor}
 use Rattle.parts.specs.Parts.{SamePart}
 use Rattle.parts.proofs.Laws.{itself_same}
 use Rattle.coincide.specs.Coincide.{Coincide}
@@ -78,7 +79,7 @@ record-Peripheral-pi_i κs a z y e f p q = itself_same p q
 pub record-Peripheral-pi_q : Coincide 1 K·record-Peripheral-pi-q.ps K·record-Peripheral-pi-q.r R·record-Peripheral-pi-q.Learnt (λ κs z y e f. SamePart z y)
 record-Peripheral-pi_q κs a z y e f p q = itself_same p q
 
-pub record-Peripheral-pi_q_mut : Coincide 1 K·record-Peripheral-pi-q-mut.ps K·record-Peripheral-pi-q-mut.r R·record-Peripheral-pi-q-mut.Learnt (λ κs z y e f. SamePart z y)
+pub record-Peripheral-pi_q_mut : Coincide 1 K·record-Peripheral-pi-q-mut.ps K·record-Peripheral-pi-q-mut.r R·record-Peripheral-pi-q-mut.Learnt (λ κs z y e f. SamePart (as_bor z) (as_bor y))
 record-Peripheral-pi_q_mut κs a z y e f p q = itself_same p q
 
 pub record-Peripheral-visit : Coincide 0 K·record-Peripheral-visit.ps K·record-Peripheral-visit.r R·record-Peripheral-visit.Learnt (λ κs z y e f. z ≡ y)
