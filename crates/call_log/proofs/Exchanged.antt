@@ -24,7 +24,7 @@ use Rattle.peripheral.proofs.Pools.{exchanged-when}
 use Rattle.master.specs.Receive.{open_request, reply_at}
 use Rattle.master.specs.Pools.{lend}
 use Rattle.valid.specs.Valid.{balance}
-use Rattle.call_log.specs.Calls.{World, reply, reply_number, reply_step, step}
+use Rattle.call_log.specs.Calls.{World, reply_number, reply_step, step}
 use Rattle.call_log.specs.Notes.{event_of}
 use Rattle.call_log.specs.Entries.{Entry, slot_log}
 use Rattle.call_log.specs.Words.{last_asked, judged, brings_image, image_of}

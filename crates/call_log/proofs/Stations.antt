@@ -16,7 +16,7 @@ use Rattle.station.specs.declared.heard.Heard.{Heard}
 use Rattle.station.specs.declared.state.PeripheralState.{PeripheralState}
 use Rattle.station.specs.declared.state.PeripheralState.TheVariants.{Offline, WaitForParam, WaitForConfig, ValidateConfig, PreDataExchange, DataExchange}
 use Rattle.station.specs.State.{state_of}
-use Rattle.station.specs.Record.{in_state, with_diagnosis}
+use Rattle.station.specs.Record.{with_diagnosis}
 use Rattle.station.specs.Visit.{request_in, action_of}
 use Rattle.payloads.specs.Request.{is_data}
 use Rattle.station.specs.Heard.{is_exchanged}

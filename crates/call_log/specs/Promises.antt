@@ -1,7 +1,7 @@
 -- The promises of demand 3, and what the proof gives beside them: over every creation, refused or not, every contents of the four pools, every list of calls,
 -- refused ones included. The definitions of the words stand in Notes.antt, Entries.antt and Words.antt, those of calls and runs in Calls.antt and Run.antt; the proofs are in proofs/.
 -- From 01, "Words of the log" and "What the contracts have to say".
-use Rattle.std.specs.Prelude.{◌≡◌, ◌↔◌, ℕ, ◌<◌, ◌^◌, Bool, true, false, not, ◌&&◌, cond, List, [], T, eqb, ltb}
+use Rattle.std.specs.Prelude.{◌≡◌, ◌↔◌, ℕ, ◌<◌, ◌^◌, Bool, true, false, not, ◌&&◌, cond, List, T, eqb, ltb}
 use Rattle.std.proofs.Math.Option.{some}
 use Rattle.fdl.specs.declared.parameters.Parameters.{Parameters}
 use Rattle.fdl.specs.Bits.{bit_of}

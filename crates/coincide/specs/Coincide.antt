@@ -1,6 +1,6 @@
 -- Any two results that a contract allows coincide.
 -- From 01, "What the contracts have to say".
-use Rattle.std.specs.Prelude.{ℕ, ◌≡◌, List}
+use Rattle.std.specs.Prelude.{ℕ, List}
 use contract.Lifetimes.{Lfts}
 use borrow.Fn.Kinds.{ParamKind, ResultKind, Out, Dens, res_t, ended_of}
 use denote.Triple.Clauses.{AtExit}

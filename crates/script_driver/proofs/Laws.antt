@@ -1,22 +1,21 @@
 -- The laws of the lent parts, of the fills, of the listing and of the end of a line.
 -- The idea: what a call leaves in the lent front has that front's length, so the front of the array afterwards is just that, and the rest is as it was.
 use mathlib.Core.Path.{◌≡◌, refl, sym, ap, ◌∙◌, subst}
-use mathlib.Core.Bool.{Bool, true, false, cond}
-use mathlib.Core.Logic.{◌⊎◌, inl, inr, ⊎_elim}
+use mathlib.Core.Bool.{Bool, false}
 use mathlib.Core.List.{List, [], ◌∷◌, ◌++◌, append-nil}
 use Prim.Native.Nat.{ℕ, zero, suc, ◌+◌, ◌*◌, ◌/◌, ◌-◌, ◌≤◌, ◌<◌}
 use native.Mathlib.Numerals.{add-one}
 use native.Mathlib.Omega.{arith}
-use lib.ListN.{length, take, drop, get_or, set, length-append, length-take, length-drop, drop_of_length-le}
-use lib.Seq.{take_all, take_at, drop_at, drop-cons, set_at, append_snoc, length-take-le, drop-append-add}
+use lib.ListN.{length, take, drop, get_or, set, length-append, length-drop, drop_of_length-le}
+use lib.Seq.{take_all, take_at, drop_at, drop-cons, set_at, append_snoc, length-take-le}
 use lib.Dec.{leb, eqb}
-use borrow.Author.Tests.{le-leb, lt-leb, leb-true, leb-false, lt-ltb, le-ltb, eq-eqb, ne_eqb}
+use borrow.Author.Tests.{leb-true, leb-false, lt-ltb, le-ltb, eq-eqb, ne_eqb}
 use denote.Ref.{Bor}
 use Rattle.parts.specs.Parts.{View, Itself}
 use Rattle.parts.proofs.Laws.{by_test}
 use Rattle.script_fields.specs.Write.{flag_number}
 use Rattle.peripheral_set.specs.declared.Entry.{Entry}
-use Rattle.peripheral_set.specs.Marks.{slots, listed_from, listed}
+use Rattle.peripheral_set.specs.Marks.{slots, listed_from}
 use Rattle.master.specs.declared.unit.DpMaster.{DpMaster}
 use Rattle.access.specs.Lookup.{entry_at}
 use Rattle.master.specs.Pools.{lend}

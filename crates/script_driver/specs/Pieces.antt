@@ -1,6 +1,6 @@
 -- A line, put together from the pieces in which it comes.
 -- From docs/SCRIPTS.md, its first lines (a line ends with one byte 0x0A) and "Fields" (too long a line, an unfinished last line).
-use Rattle.std.specs.Prelude.{◌≡◌, ℕ, zero, suc, ◌+◌, ◌-◌, Bool, true, false, cond, List, length, get_or, eqb, ltb}
+use Rattle.std.specs.Prelude.{◌≡◌, ℕ, zero, suc, ◌+◌, ◌-◌, Bool, true, cond, List, length, get_or, eqb, ltb}
 use Rattle.parts.specs.Parts.{room_for, put_in}
 use Rattle.script_driver.specs.declared.pieces.Partial.{Partial}
 

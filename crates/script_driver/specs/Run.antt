@@ -1,6 +1,6 @@
 -- The unit and the lent lengths between two lines, and which call a line makes.
 -- From docs/SCRIPTS.md, "What the program holds", "Fields" (what is no call) and "Calls" (L).
-use Rattle.std.specs.Prelude.{ℕ, Bool, true, false, cond}
+use Rattle.std.specs.Prelude.{Bool, true, false, cond}
 use Rattle.fdl.specs.declared.parameters.Parameters.{Parameters}
 use Rattle.fdl.specs.Params.{lowest}
 use Rattle.master.specs.declared.unit.DpMaster.{DpMaster}

@@ -1,5 +1,5 @@
 -- The dump of a unit. From docs/SCRIPTS.md, "D": the ten groups of fields in their order.
-use Rattle.std.specs.Prelude.{ℕ, zero, suc, ◌+◌, Bool, true, false, not, cond, List, [], ◌∷◌, ◌++◌, length, get_or, eqb}
+use Rattle.std.specs.Prelude.{ℕ, zero, suc, ◌+◌, Bool, false, not, cond, List, [], ◌∷◌, ◌++◌, length, get_or, eqb}
 use Rattle.fdl.specs.declared.parameters.Parameters.{Parameters}
 use Rattle.station.specs.Record.{last_diagnosis, stored_part}
 use Rattle.peripheral.specs.declared.record.Peripheral.{Peripheral}

@@ -1,5 +1,5 @@
 -- The sum over all that is answered, the numbers of an answer in the order of docs/SCRIPTS.md. From docs/COMPARE.md, "Speed".
-use Rattle.std.specs.Prelude.{ℕ, ◌%◌, List, [], ◌∷◌, ◌++◌}
+use Rattle.std.specs.Prelude.{ℕ, ◌%◌, List, [], ◌∷◌}
 use Rattle.parts.specs.Parts.{part}
 use Rattle.fdl.specs.declared.telegram.DataTelegramHeader.{DataTelegramHeader}
 use Rattle.fdl.specs.Sap.{sap_number}

@@ -1,7 +1,6 @@
 -- `iter` meets its contract. The idea: the loop lays the entries over the front of the list, one after the other; a refusal is no branch, since its count is 0.
-use mathlib.Core.Path.{◌≡◌, sym, ap, ◌∙◌}
+use mathlib.Core.Path.{◌≡◌, ap, ◌∙◌}
 use mathlib.Core.List.{List}
-use Prim.Native.Nat.{◌+◌}
 use native.Mathlib.Numerals.{add-one}
 use native.Mathlib.Omega.{arith}
 use lib.ListN.{length, set, take}
