@@ -1,4 +1,4 @@
-// The two forms that are proved by a walk of their code, in use: the listing in a lent list, and the last diagnosis as one record.
+// The two forms of crate `forms` in use: the listing in a lent list, and the last diagnosis as one record.
 // `stdout` has what this writes, worked out from document 01.
 #![tactic(auto)]
 
@@ -150,7 +150,7 @@ fn tell_list(rt: &impl Print, a: Listed, list: [Entry; 32]) -> io::Result<()> {
     rt.write_all(b"\n")
 }
 
-// `iter` on the first `room` entries of a list. It lends entries, so this is proved by a walk of its code, and does nothing else.
+// `iter` on the first `room` entries of a list, and nothing else.
 fn listed(rt: &impl Print, m: DpMaster, list: [Entry; 32], room: usize) -> io::Result<()>
     requires { room ≤ 32 }
 {
@@ -201,7 +201,7 @@ fn tell_record(
     rt.write_all(b"\n")
 }
 
-// The record is made and read. It holds a reference, so this is proved by a walk of its code, and does nothing else.
+// The record is made and read, and nothing else.
 fn show(rt: &impl Print, m: DpMaster, handle: PeripheralHandle, diags: &[u8]) -> io::Result<()> {
     let d = forms::diagnosis::last_diagnostics(m, handle, diags);
     let part = forms::diagnosis::extended(d);
