@@ -29,7 +29,7 @@ use Rattle.call_log.specs.Calls.{World, Call, Outcome, enter, hand, number, unit
 use Rattle.call_log.specs.Entries.{Entry, slot_log}
 use Rattle.call_log.specs.Words.{image_of}
 use Rattle.call_log.specs.Run.{Run, after, run}
-use Rattle.call_log.specs.Made.{by_add, by_enter-state, by_enter_stop, by_enter_clear, by_enter_operate, by_transmit_telegram, by_receive_reply, by_reset-address, by_request_diagnostics, by_write-outputs, by_pi_q_mut, Handed, by_pi_i, by_new, then}
+use Rattle.call_log.specs.Made.{by_add, by_enter_state, by_enter_stop, by_enter_clear, by_enter_operate, by_transmit_telegram, by_receive_reply, by_reset_address, by_request_diagnostics, by_write_outputs, by_pi_q_mut, Handed, by_pi_i, by_new, then}
 use Rattle.call_log.specs.Promises.{AllowedIsStep, MadeIsRun, ReadTold}
 use Rattle.call_log.proofs.Ties.{add_tied, enter_tied, turn_tied, reply_tied, reset_tied, wish_tied, write_tied, hand_tied}
 use Rattle.call_log.proofs.Units.{Inv}
@@ -67,17 +67,17 @@ handing w h nq k bytes m o from to seen n em eo es et ek eb en =
 pub allowed_step : AllowedIsStep
 allowed_step w _ _ (by_add κs a z e c lent em es ei eo ed) =
     add_tied w _ _ _ lent _ z (adding a.0 w.unit _ _ _ _ _ _ _ _ _ _ _ _ z em es ei eo ed c)
-allowed_step w _ _ (by_enter-state κs a z e c em) = entering w a.1.0 z a.0 em c
+allowed_step w _ _ (by_enter_state κs a z e c em) = entering w a.1.0 z a.0 em c
 allowed_step w _ _ (by_enter_stop κs a z e c em) = entering w Stop z a.0 em c
 allowed_step w _ _ (by_enter_clear κs a z e c em) = entering w Clear z a.0 em c
 allowed_step w _ _ (by_enter_operate κs a z e c em) = entering w Operate z a.0 em c
 allowed_step w _ _ (by_transmit_telegram κs a z e c ns nq em es eo) = turn_tied w a.1.0 a.1.1.0 ns nq _ _ z (turning a.0 w.unit _ _ _ _ _ _ _ _ z em es eo c)
 allowed_step w _ _ (by_receive_reply κs a z e c ni nd em ei ed) = reply_tied w a.1.0 a.1.1.0 _ ni nd _ _ z (receiving a.0 w.unit _ _ _ _ _ _ _ _ _ z em ei ed c)
-allowed_step w _ _ (by_reset-address κs a z e c em) = reset_tied w a.1.0 a.1.1.0 z (c ∙ ap (λ (m : DpMaster). reset_done m a.1.0 a.1.1.0) (sym em))
+allowed_step w _ _ (by_reset_address κs a z e c em) = reset_tied w a.1.0 a.1.1.0 z (c ∙ ap (λ (m : DpMaster). reset_done m a.1.0 a.1.1.0) (sym em))
 allowed_step w _ _ (by_request_diagnostics κs a z e c em) = wish_tied w a.1.0 z (c ∙ ap (λ (m : DpMaster). wish_done m a.1.0) (sym em))
 allowed_step w _ _ (by_pi_q_mut κs a z e c λs b n f d nq k bytes em en eh eo ep ek eb) =
     handing w a.1.0 nq k bytes a.0 a.1.1.0.now a.1.1.0.ref_ptr.1 z.ref_ptr.1 z.now n em eo c.holds c.offset ek eb (rw (en, ep, ← eh) d)
-allowed_step w _ _ (by_write-outputs κs a z e c nq em eo) = write_tied w a.1.0 _ nq _ z (writing a.0 w.unit _ _ _ _ _ z em eo c)
+allowed_step w _ _ (by_write_outputs κs a z e c nq em eo) = write_tied w a.1.0 _ nq _ z (writing a.0 w.unit _ _ _ _ _ z em eo c)
 
 -- ---- what `pi_i` hands out
 

@@ -63,7 +63,7 @@ pub data Allowed (w : World) : Call → Outcome → Type 0 where
             };
         answer = added z.refusal z.handle;
       })
-  by_enter-state : (κs : Lfts 0) (a : Dens κs K·enter.ps) (z : (res_t K·enter.r κs).Denot) (e : AtExit (ended_of 0 K·enter.ps K·enter.r) κs) → R·enter.Learnt κs a z e
+  by_enter_state : (κs : Lfts 0) (a : Dens κs K·enter.ps) (z : (res_t K·enter.r κs).Denot) (e : AtExit (ended_of 0 K·enter.ps K·enter.r) κs) → R·enter.Learnt κs a z e
       → w.unit ≡ a.0 → Allowed w (enter a.1.0) (record { world = unit_is z w; answer = number 0 })
   by_enter_stop : (κs : Lfts 0) (a : Dens κs K·stop.ps) (z : (res_t K·stop.r κs).Denot) (e : AtExit (ended_of 0 K·stop.ps K·stop.r) κs) → R·stop.Learnt κs a z e
       → w.unit ≡ a.0 → Allowed w (enter Stop) (record { world = unit_is z w; answer = number 0 })
@@ -91,11 +91,11 @@ pub data Allowed (w : World) : Call → Outcome → Type 0 where
             };
         answer = replied z.answer;
       })
-  by_reset-address : (κs : Lfts 0) (a : Dens κs K·reset.ps) (z : (res_t K·reset.r κs).Denot) (e : AtExit (ended_of 0 K·reset.ps K·reset.r) κs) → R·reset.Learnt κs a z e
+  by_reset_address : (κs : Lfts 0) (a : Dens κs K·reset.ps) (z : (res_t K·reset.r κs).Denot) (e : AtExit (ended_of 0 K·reset.ps K·reset.r) κs) → R·reset.Learnt κs a z e
       → w.unit ≡ a.0 → Allowed w (reset a.1.0 a.1.1.0) (record { world = unit_is z.master w; answer = number z.refusal })
   by_request_diagnostics : (κs : Lfts 0) (a : Dens κs K·wish.ps) (z : (res_t K·wish.r κs).Denot) (e : AtExit (ended_of 0 K·wish.ps K·wish.r) κs) → R·wish.Learnt κs a z e
       → w.unit ≡ a.0 → Allowed w (wish a.1.0) (record { world = unit_is z.master w; answer = number z.refusal })
-  by_write-outputs : (κs : Lfts 2) (a : Dens κs K·write.ps) (z : (res_t K·write.r κs).Denot) (e : AtExit (ended_of 2 K·write.ps K·write.r) κs) → R·write.Learnt κs a z e
+  by_write_outputs : (κs : Lfts 2) (a : Dens κs K·write.ps) (z : (res_t K·write.r κs).Denot) (e : AtExit (ended_of 2 K·write.ps K·write.r) κs) → R·write.Learnt κs a z e
       → (nq : ℕ) → w.unit ≡ a.0 → lend nq w.pools.outputs ≡ a.1.1.1.0.now
       → Allowed w (write a.1.0 a.1.1.0.now nq) (record { world = outputs_are (back nq e.1.1.1.0.now w.pools.outputs) w; answer = number z })
   -- `pi_q_mut`, and then bytes written through the part: they stand where it lies, k bytes behind the start of the lent pool; its number is that of `pi_q_refusal`

@@ -41,53 +41,53 @@ use Rattle.access.proofs.lookup.address.Reads as R·lookup-address
 use Rattle.access.proofs.lookup.options.Kinds as K·lookup-options
 use Rattle.access.proofs.lookup.options.Reads as R·lookup-options
 
-pub diagnosis_last_diagnostics : Coincide 1 K·diagnosis-last-diagnostics.ps K·diagnosis-last-diagnostics.r R·diagnosis-last-diagnostics.Learnt (λ κs z y e f. z ≡ y)
-diagnosis_last_diagnostics κs a z y e f p q = same p q
+pub diagnosis-last_diagnostics : Coincide 1 K·diagnosis-last-diagnostics.ps K·diagnosis-last-diagnostics.r R·diagnosis-last-diagnostics.Learnt (λ κs z y e f. z ≡ y)
+diagnosis-last_diagnostics κs a z y e f p q = same p q
 
 pub diagnosis-extended_diagnostics : Coincide 1 K·diagnosis-extended-diagnostics.ps K·diagnosis-extended-diagnostics.r R·diagnosis-extended-diagnostics.Learnt (λ κs z y e f. SamePart z y)
 diagnosis-extended_diagnostics κs a z y e f p q = itself_same p q
 
-pub images_pooled_refusal : Coincide 0 K·images-pooled-refusal.ps K·images-pooled-refusal.r R·images-pooled-refusal.Learnt (λ κs z y e f. z ≡ y)
-images_pooled_refusal κs a z y e f p q = same p q
+pub images-pooled_refusal : Coincide 0 K·images-pooled-refusal.ps K·images-pooled-refusal.r R·images-pooled-refusal.Learnt (λ κs z y e f. z ≡ y)
+images-pooled_refusal κs a z y e f p q = same p q
 
-pub images_pi_i_refusal : Coincide 1 K·images-pi-i-refusal.ps K·images-pi-i-refusal.r R·images-pi-i-refusal.Learnt (λ κs z y e f. z ≡ y)
-images_pi_i_refusal κs a z y e f p q = same p q
+pub images-pi_i_refusal : Coincide 1 K·images-pi-i-refusal.ps K·images-pi-i-refusal.r R·images-pi-i-refusal.Learnt (λ κs z y e f. z ≡ y)
+images-pi_i_refusal κs a z y e f p q = same p q
 
-pub images_pi_i : Coincide 1 K·images-pi-i.ps K·images-pi-i.r R·images-pi-i.Learnt (λ κs z y e f. SamePart z y)
-images_pi_i κs a z y e f p q = itself_same p q
+pub images-pi_i : Coincide 1 K·images-pi-i.ps K·images-pi-i.r R·images-pi-i.Learnt (λ κs z y e f. SamePart z y)
+images-pi_i κs a z y e f p q = itself_same p q
 
-pub images_pi_q_refusal : Coincide 1 K·images-pi-q-refusal.ps K·images-pi-q-refusal.r R·images-pi-q-refusal.Learnt (λ κs z y e f. z ≡ y)
-images_pi_q_refusal κs a z y e f p q = same p q
+pub images-pi_q_refusal : Coincide 1 K·images-pi-q-refusal.ps K·images-pi-q-refusal.r R·images-pi-q-refusal.Learnt (λ κs z y e f. z ≡ y)
+images-pi_q_refusal κs a z y e f p q = same p q
 
-pub images_pi_q : Coincide 1 K·images-pi-q.ps K·images-pi-q.r R·images-pi-q.Learnt (λ κs z y e f. SamePart z y)
-images_pi_q κs a z y e f p q = itself_same p q
+pub images-pi_q : Coincide 1 K·images-pi-q.ps K·images-pi-q.r R·images-pi-q.Learnt (λ κs z y e f. SamePart z y)
+images-pi_q κs a z y e f p q = itself_same p q
 
-pub images_pi_q_mut : Coincide 1 K·images-pi-q-mut.ps K·images-pi-q-mut.r R·images-pi-q-mut.Learnt (λ κs z y e f. SamePart (as_bor z) (as_bor y))
-images_pi_q_mut κs a z y e f p q = itself_same p q
+pub images-pi_q_mut : Coincide 1 K·images-pi-q-mut.ps K·images-pi-q-mut.r R·images-pi-q-mut.Learnt (λ κs z y e f. SamePart (as_bor z) (as_bor y))
+images-pi_q_mut κs a z y e f p q = itself_same p q
 
-pub images_pi_q_range : Coincide 1 K·images-pi-q-range.ps K·images-pi-q-range.r R·images-pi-q-range.Learnt (λ κs z y e f. z ≡ y)
-images_pi_q_range κs a z y e f p q = same p q
+pub images-pi_q_range : Coincide 1 K·images-pi-q-range.ps K·images-pi-q-range.r R·images-pi-q-range.Learnt (λ κs z y e f. z ≡ y)
+images-pi_q_range κs a z y e f p q = same p q
 
-pub images_write-outputs : Coincide 2 K·images-write-outputs.ps K·images-write-outputs.r R·images-write-outputs.Learnt (λ κs z y e f. (z ≡ y) × (e.1.1.1.0.now ≡ f.1.1.1.0.now))
-images_write-outputs κs a z y e f p q = (same p.answer q.answer, same p.pool q.pool)
+pub images-write_outputs : Coincide 2 K·images-write-outputs.ps K·images-write-outputs.r R·images-write-outputs.Learnt (λ κs z y e f. (z ≡ y) × (e.1.1.1.0.now ≡ f.1.1.1.0.now))
+images-write_outputs κs a z y e f p q = (same p.answer q.answer, same p.pool q.pool)
 
-pub listing_count : Coincide 0 K·listing-count.ps K·listing-count.r R·listing-count.Learnt (λ κs z y e f. z ≡ y)
-listing_count κs a z y e f p q = same p q
+pub listing-count : Coincide 0 K·listing-count.ps K·listing-count.r R·listing-count.Learnt (λ κs z y e f. z ≡ y)
+listing-count κs a z y e f p q = same p q
 
-pub listing_entry : Coincide 0 K·listing-entry.ps K·listing-entry.r R·listing-entry.Learnt (λ κs z y e f. z ≡ y)
-listing_entry κs a z y e f p q = same p q
+pub listing-entry : Coincide 0 K·listing-entry.ps K·listing-entry.r R·listing-entry.Learnt (λ κs z y e f. z ≡ y)
+listing-entry κs a z y e f p q = same p q
 
-pub lookup_find : Coincide 0 K·lookup-find.ps K·lookup-find.r R·lookup-find.Learnt (λ κs z y e f. z ≡ y)
-lookup_find κs a z y e f p q = same p q
+pub lookup-find : Coincide 0 K·lookup-find.ps K·lookup-find.r R·lookup-find.Learnt (λ κs z y e f. z ≡ y)
+lookup-find κs a z y e f p q = same p q
 
-pub lookup_is_live : Coincide 0 K·lookup-is-live.ps K·lookup-is-live.r R·lookup-is-live.Learnt (λ κs z y e f. z ≡ y)
-lookup_is_live κs a z y e f p q = same p q
+pub lookup-is_live : Coincide 0 K·lookup-is-live.ps K·lookup-is-live.r R·lookup-is-live.Learnt (λ κs z y e f. z ≡ y)
+lookup-is_live κs a z y e f p q = same p q
 
-pub lookup_is_running : Coincide 0 K·lookup-is-running.ps K·lookup-is-running.r R·lookup-is-running.Learnt (λ κs z y e f. z ≡ y)
-lookup_is_running κs a z y e f p q = same p q
+pub lookup-is_running : Coincide 0 K·lookup-is-running.ps K·lookup-is-running.r R·lookup-is-running.Learnt (λ κs z y e f. z ≡ y)
+lookup-is_running κs a z y e f p q = same p q
 
-pub lookup_address : Coincide 0 K·lookup-address.ps K·lookup-address.r R·lookup-address.Learnt (λ κs z y e f. z ≡ y)
-lookup_address κs a z y e f p q = same p q
+pub lookup-address : Coincide 0 K·lookup-address.ps K·lookup-address.r R·lookup-address.Learnt (λ κs z y e f. z ≡ y)
+lookup-address κs a z y e f p q = same p q
 
-pub lookup_options : Coincide 0 K·lookup-options.ps K·lookup-options.r R·lookup-options.Learnt (λ κs z y e f. z ≡ y)
-lookup_options κs a z y e f p q = same p q
+pub lookup-options : Coincide 0 K·lookup-options.ps K·lookup-options.r R·lookup-options.Learnt (λ κs z y e f. z ≡ y)
+lookup-options κs a z y e f p q = same p q

@@ -12,8 +12,8 @@ use Rattle.answers.proofs.turn.TurnAnswer.of.Reads as R·turn-TurnAnswer-of
 use Rattle.answers.proofs.reply_answer.judge.Kinds as K·reply-answer-judge
 use Rattle.answers.proofs.reply_answer.judge.Reads as R·reply-answer-judge
 
-pub turn_fill : Coincide 3 K·turn-fill.ps K·turn-fill.r R·turn-fill.Learnt (λ κs z y e f. (z ≡ y) × (e.1.1.1.1.1.1.1.0.now ≡ f.1.1.1.1.1.1.1.0.now))
-turn_fill κs a z y e f p q = (same p.answer q.answer, same p.bytes q.bytes)
+pub turn-fill : Coincide 3 K·turn-fill.ps K·turn-fill.r R·turn-fill.Learnt (λ κs z y e f. (z ≡ y) × (e.1.1.1.1.1.1.1.0.now ≡ f.1.1.1.1.1.1.1.0.now))
+turn-fill κs a z y e f p q = (same p.answer q.answer, same p.bytes q.bytes)
 
 pub turn-TurnAnswer-refused : Coincide 0 K·turn-TurnAnswer-refused.ps K·turn-TurnAnswer-refused.r R·turn-TurnAnswer-refused.Learnt (λ κs z y e f. z ≡ y)
 turn-TurnAnswer-refused κs a z y e f p q = same p q
@@ -21,5 +21,5 @@ turn-TurnAnswer-refused κs a z y e f p q = same p q
 pub turn-TurnAnswer-of : Coincide 0 K·turn-TurnAnswer-of.ps K·turn-TurnAnswer-of.r R·turn-TurnAnswer-of.Learnt (λ κs z y e f. z ≡ y)
 turn-TurnAnswer-of κs a z y e f p q = same p q
 
-pub reply-answer_judge : Coincide 1 K·reply-answer-judge.ps K·reply-answer-judge.r R·reply-answer-judge.Learnt (λ κs z y e f. z ≡ y)
-reply-answer_judge κs a z y e f p q = same p q
+pub reply_answer-judge : Coincide 1 K·reply-answer-judge.ps K·reply-answer-judge.r R·reply-answer-judge.Learnt (λ κs z y e f. z ≡ y)
+reply_answer-judge κs a z y e f p q = same p q

@@ -46,20 +46,20 @@ use Rattle.cycle.proofs.state.DpMasterState.answered.Reads as R·state-DpMasterS
 use Rattle.cycle.proofs.state.DpMasterState.closed_for.Kinds as K·state-DpMasterState-closed-for
 use Rattle.cycle.proofs.state.DpMasterState.closed_for.Reads as R·state-DpMasterState-closed-for
 
-pub refusal-turn-refusal : Coincide 0 K·refusal-turn-refusal.ps K·refusal-turn-refusal.r R·refusal-turn-refusal.Learnt (λ κs z y e f. z ≡ y)
-refusal-turn-refusal κs a z y e f p q = same p q
+pub refusal-turn_refusal : Coincide 0 K·refusal-turn-refusal.ps K·refusal-turn-refusal.r R·refusal-turn-refusal.Learnt (λ κs z y e f. z ≡ y)
+refusal-turn_refusal κs a z y e f p q = same p q
 
-pub refusal-reply-refusal : Coincide 0 K·refusal-reply-refusal.ps K·refusal-reply-refusal.r R·refusal-reply-refusal.Learnt (λ κs z y e f. z ≡ y)
-refusal-reply-refusal κs a z y e f p q = same p q
+pub refusal-reply_refusal : Coincide 0 K·refusal-reply-refusal.ps K·refusal-reply-refusal.r R·refusal-reply-refusal.Learnt (λ κs z y e f. z ≡ y)
+refusal-reply_refusal κs a z y e f p q = same p q
 
-pub refusal-add-refusal : Coincide 0 K·refusal-add-refusal.ps K·refusal-add-refusal.r R·refusal-add-refusal.Learnt (λ κs z y e f. z ≡ y)
-refusal-add-refusal κs a z y e f p q = same p q
+pub refusal-add_refusal : Coincide 0 K·refusal-add-refusal.ps K·refusal-add-refusal.r R·refusal-add-refusal.Learnt (λ κs z y e f. z ≡ y)
+refusal-add_refusal κs a z y e f p q = same p q
 
 pub seen-bit : Coincide 0 K·seen-bit.ps K·seen-bit.r R·seen-bit.Learnt (λ κs z y e f. z ≡ y)
 seen-bit κs a z y e f p q = same p q
 
-pub seen_index : Coincide 0 K·seen-index.ps K·seen-index.r R·seen-index.Learnt (λ κs z y e f. z ≡ y)
-seen_index κs a z y e f p q = same p.0 q.0
+pub seen-index : Coincide 0 K·seen-index.ps K·seen-index.r R·seen-index.Learnt (λ κs z y e f. z ≡ y)
+seen-index κs a z y e f p q = same p.0 q.0
 
 pub seen-Sent-index : Coincide 0 K·seen-Sent-index.ps K·seen-Sent-index.r R·seen-Sent-index.Learnt (λ κs z y e f. z ≡ y)
 seen-Sent-index κs a z y e f p q = same p.0 q.0
@@ -67,8 +67,8 @@ seen-Sent-index κs a z y e f p q = same p.0 q.0
 pub seen-Seen-new : Coincide 0 K·seen-Seen-new.ps K·seen-Seen-new.r R·seen-Seen-new.Learnt (λ κs z y e f. z ≡ y)
 seen-Seen-new κs a z y e f p q = same p q
 
-pub seen-Seen-visited : Coincide 0 K·seen-Seen-visited.ps K·seen-Seen-visited.r R·seen-Seen-visited.Learnt (λ κs z y e f. z ≡ y)
-seen-Seen-visited κs a z y e f p q = same p q
+pub seen-Seen-seen_after : Coincide 0 K·seen-Seen-visited.ps K·seen-Seen-visited.r R·seen-Seen-visited.Learnt (λ κs z y e f. z ≡ y)
+seen-Seen-seen_after κs a z y e f p q = same p q
 
 pub seen-Seen-next : Coincide 0 K·seen-Seen-next.ps K·seen-Seen-next.r R·seen-Seen-next.Learnt (λ κs z y e f. z ≡ y)
 seen-Seen-next κs a z y e f p q = same p q
@@ -91,8 +91,8 @@ state-DpMasterState-is_open κs a z y e f p q = same p q
 pub state-DpMasterState-is_clear : Coincide 0 K·state-DpMasterState-is-clear.ps K·state-DpMasterState-is-clear.r R·state-DpMasterState-is-clear.Learnt (λ κs z y e f. z ≡ y)
 state-DpMasterState-is_clear κs a z y e f p q = same p q
 
-pub state-DpMasterState-control-due : Coincide 0 K·state-DpMasterState-control-due.ps K·state-DpMasterState-control-due.r R·state-DpMasterState-control-due.Learnt (λ κs z y e f. z ≡ y)
-state-DpMasterState-control-due κs a z y e f p q = same p q
+pub state-DpMasterState-control_due : Coincide 0 K·state-DpMasterState-control-due.ps K·state-DpMasterState-control-due.r R·state-DpMasterState-control-due.Learnt (λ κs z y e f. z ≡ y)
+state-DpMasterState-control_due κs a z y e f p q = same p q
 
 pub state-DpMasterState-step : Coincide 0 K·state-DpMasterState-step.ps K·state-DpMasterState-step.r R·state-DpMasterState-step.Learnt (λ κs z y e f. z ≡ y)
 state-DpMasterState-step κs a z y e f p q = same p q
@@ -100,8 +100,8 @@ state-DpMasterState-step κs a z y e f p q = same p q
 pub state-DpMasterState-start : Coincide 0 K·state-DpMasterState-start.ps K·state-DpMasterState-start.r R·state-DpMasterState-start.Learnt (λ κs z y e f. z ≡ y)
 state-DpMasterState-start κs a z y e f p q = same p q
 
-pub state-DpMasterState-after-turn : Coincide 0 K·state-DpMasterState-after-turn.ps K·state-DpMasterState-after-turn.r R·state-DpMasterState-after-turn.Learnt (λ κs z y e f. z ≡ y)
-state-DpMasterState-after-turn κs a z y e f p q = same p q
+pub state-DpMasterState-after_turn : Coincide 0 K·state-DpMasterState-after-turn.ps K·state-DpMasterState-after-turn.r R·state-DpMasterState-after-turn.Learnt (λ κs z y e f. z ≡ y)
+state-DpMasterState-after_turn κs a z y e f p q = same p q
 
 pub state-DpMasterState-answered : Coincide 0 K·state-DpMasterState-answered.ps K·state-DpMasterState-answered.r R·state-DpMasterState-answered.Learnt (λ κs z y e f. z ≡ y)
 state-DpMasterState-answered κs a z y e f p q = same p q

@@ -44,8 +44,8 @@ consts-Service-sap κs a z y e f p q = same p q
 pub parameters-Parameters-refusal : Coincide 0 K·parameters-Parameters-refusal.ps K·parameters-Parameters-refusal.r R·parameters-Parameters-refusal.Learnt (λ κs z y e f. z ≡ y)
 parameters-Parameters-refusal κs a z y e f p q = same p q
 
-pub parameters-Parameters-held : Coincide 0 K·parameters-Parameters-held.ps K·parameters-Parameters-held.r R·parameters-Parameters-held.Learnt (λ κs z y e f. z ≡ y)
-parameters-Parameters-held κs a z y e f p q = same p q
+pub parameters-Parameters-in_force : Coincide 0 K·parameters-Parameters-held.ps K·parameters-Parameters-held.r R·parameters-Parameters-held.Learnt (λ κs z y e f. z ≡ y)
+parameters-Parameters-in_force κs a z y e f p q = same p q
 
 pub parameters-Parameters-lowest : Coincide 0 K·parameters-Parameters-lowest.ps K·parameters-Parameters-lowest.r R·parameters-Parameters-lowest.Learnt (λ κs z y e f. z ≡ y)
 parameters-Parameters-lowest κs a z y e f p q = same p q

@@ -30,8 +30,8 @@ use Rattle.master.proofs.unit.DpMaster.enter_operate.Reads as R·unit-DpMaster-e
 pub unit-DpMaster-add : Coincide 6 K·unit-DpMaster-add.ps K·unit-DpMaster-add.r R·unit-DpMaster-add.Learnt (λ κs z y e f. (z ≡ y) × (e.1.1.1.1.0.now ≡ f.1.1.1.1.0.now) × (e.1.1.1.1.1.0.now ≡ f.1.1.1.1.1.0.now) × (e.1.1.1.1.1.1.0.now ≡ f.1.1.1.1.1.1.0.now) × (e.1.1.1.1.1.1.1.0.now ≡ f.1.1.1.1.1.1.1.0.now))
 unit-DpMaster-add κs a z y e f p q = (rw (same p.refusal q.refusal, same p.handle q.handle, same p.after q.after) refl, ap (λ (x : Pools). x.setup) (same p.written q.written), ap (λ (x : Pools). x.inputs) (same p.written q.written), ap (λ (x : Pools). x.outputs) (same p.written q.written), ap (λ (x : Pools). x.diags) (same p.written q.written))
 
-pub unit-DpMaster-reset-address : Coincide 0 K·unit-DpMaster-reset-address.ps K·unit-DpMaster-reset-address.r R·unit-DpMaster-reset-address.Learnt (λ κs z y e f. z ≡ y)
-unit-DpMaster-reset-address κs a z y e f p q = same p q
+pub unit-DpMaster-reset_address : Coincide 0 K·unit-DpMaster-reset-address.ps K·unit-DpMaster-reset-address.r R·unit-DpMaster-reset-address.Learnt (λ κs z y e f. z ≡ y)
+unit-DpMaster-reset_address κs a z y e f p q = same p q
 
 pub unit-DpMaster-request_diagnostics : Coincide 0 K·unit-DpMaster-request-diagnostics.ps K·unit-DpMaster-request-diagnostics.r R·unit-DpMaster-request-diagnostics.Learnt (λ κs z y e f. z ≡ y)
 unit-DpMaster-request_diagnostics κs a z y e f p q = same p q
@@ -45,11 +45,11 @@ unit-DpMaster-transmit_telegram κs a z y e f p q = (rw (same p.after q.after, s
 pub unit-DpMaster-new : Coincide 0 K·unit-DpMaster-new.ps K·unit-DpMaster-new.r R·unit-DpMaster-new.Learnt (λ κs z y e f. z ≡ y)
 unit-DpMaster-new κs a z y e f p q = same p q
 
-pub unit-DpMaster-operating-state : Coincide 0 K·unit-DpMaster-operating-state.ps K·unit-DpMaster-operating-state.r R·unit-DpMaster-operating-state.Learnt (λ κs z y e f. z ≡ y)
-unit-DpMaster-operating-state κs a z y e f p q = same p q
+pub unit-DpMaster-operating_state : Coincide 0 K·unit-DpMaster-operating-state.ps K·unit-DpMaster-operating-state.r R·unit-DpMaster-operating-state.Learnt (λ κs z y e f. z ≡ y)
+unit-DpMaster-operating_state κs a z y e f p q = same p q
 
-pub unit-DpMaster-enter-state : Coincide 0 K·unit-DpMaster-enter-state.ps K·unit-DpMaster-enter-state.r R·unit-DpMaster-enter-state.Learnt (λ κs z y e f. z ≡ y)
-unit-DpMaster-enter-state κs a z y e f p q = same p q
+pub unit-DpMaster-enter_state : Coincide 0 K·unit-DpMaster-enter-state.ps K·unit-DpMaster-enter-state.r R·unit-DpMaster-enter-state.Learnt (λ κs z y e f. z ≡ y)
+unit-DpMaster-enter_state κs a z y e f p q = same p q
 
 pub unit-DpMaster-enter_stop : Coincide 0 K·unit-DpMaster-enter-stop.ps K·unit-DpMaster-enter-stop.r R·unit-DpMaster-enter-stop.Learnt (λ κs z y e f. z ≡ y)
 unit-DpMaster-enter_stop κs a z y e f p q = same p q

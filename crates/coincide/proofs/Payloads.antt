@@ -37,11 +37,11 @@ use Rattle.payloads.proofs.diagnosis.store_extended.Reads as R·diagnosis-store-
 pub diagnosis-DiagnosticsInfo-none : Coincide 0 K·diagnosis-DiagnosticsInfo-none.ps K·diagnosis-DiagnosticsInfo-none.r R·diagnosis-DiagnosticsInfo-none.Learnt (λ κs z y e f. z ≡ y)
 diagnosis-DiagnosticsInfo-none κs a z y e f p q = same p q
 
-pub diagnosis_is_taken : Coincide 0 K·diagnosis-is-taken.ps K·diagnosis-is-taken.r R·diagnosis-is-taken.Learnt (λ κs z y e f. z ≡ y)
-diagnosis_is_taken κs a z y e f p q = same p q
+pub diagnosis-is_taken : Coincide 0 K·diagnosis-is-taken.ps K·diagnosis-is-taken.r R·diagnosis-is-taken.Learnt (λ κs z y e f. z ≡ y)
+diagnosis-is_taken κs a z y e f p q = same p q
 
-pub diagnosis_read_diagnosis : Coincide 1 K·diagnosis-read-diagnosis.ps K·diagnosis-read-diagnosis.r R·diagnosis-read-diagnosis.Learnt (λ κs z y e f. z ≡ y)
-diagnosis_read_diagnosis κs a z y e f p q = same p q
+pub diagnosis-read_diagnosis : Coincide 1 K·diagnosis-read-diagnosis.ps K·diagnosis-read-diagnosis.r R·diagnosis-read-diagnosis.Learnt (λ κs z y e f. z ≡ y)
+diagnosis-read_diagnosis κs a z y e f p q = same p q
 
 pub request-control_header : Coincide 0 K·request-control-header.ps K·request-control-header.r R·request-control-header.Learnt (λ κs z y e f. z ≡ y)
 request-control_header κs a z y e f p q = same p q
@@ -58,17 +58,17 @@ request-Request-is_data κs a z y e f p q = same p q
 pub request-Request-header : Coincide 0 K·request-Request-header.ps K·request-Request-header.r R·request-Request-header.Learnt (λ κs z y e f. z ≡ y)
 request-Request-header κs a z y e f p q = same p q
 
-pub write-write-parameters : Coincide 2 K·write-write-parameters.ps K·write-write-parameters.r R·write-write-parameters.Learnt (λ κs z y e f. (z ≡ y) × (e.1.1.1.0.now ≡ f.1.1.1.0.now))
-write-write-parameters κs a z y e f p q = (same p.len q.len, same p.bytes q.bytes)
+pub write-write_parameters : Coincide 2 K·write-write-parameters.ps K·write-write-parameters.r R·write-write-parameters.Learnt (λ κs z y e f. (z ≡ y) × (e.1.1.1.0.now ≡ f.1.1.1.0.now))
+write-write_parameters κs a z y e f p q = (same p.len q.len, same p.bytes q.bytes)
 
-pub write-write-bytes : Coincide 2 K·write-write-bytes.ps K·write-write-bytes.r R·write-write-bytes.Learnt (λ κs z y e f. (z ≡ y) × (e.1.0.now ≡ f.1.0.now))
-write-write-bytes κs a z y e f p q = (same p.len q.len, same p.bytes q.bytes)
+pub write-write_bytes : Coincide 2 K·write-write-bytes.ps K·write-write-bytes.r R·write-write-bytes.Learnt (λ κs z y e f. (z ≡ y) × (e.1.0.now ≡ f.1.0.now))
+write-write_bytes κs a z y e f p q = (same p.len q.len, same p.bytes q.bytes)
 
-pub write-write-zeros : Coincide 1 K·write-write-zeros.ps K·write-write-zeros.r R·write-write-zeros.Learnt (λ κs z y e f. (z ≡ y) × (e.1.0.now ≡ f.1.0.now))
-write-write-zeros κs a z y e f p q = (same p.len q.len, same p.bytes q.bytes)
+pub write-write_zeros : Coincide 1 K·write-write-zeros.ps K·write-write-zeros.r R·write-write-zeros.Learnt (λ κs z y e f. (z ≡ y) × (e.1.0.now ≡ f.1.0.now))
+write-write_zeros κs a z y e f p q = (same p.len q.len, same p.bytes q.bytes)
 
-pub write-write-control : Coincide 1 K·write-write-control.ps K·write-write-control.r R·write-write-control.Learnt (λ κs z y e f. (z ≡ y) × (e.1.0.now ≡ f.1.0.now))
-write-write-control κs a z y e f p q = (same p.len q.len, same p.bytes q.bytes)
+pub write-write_control : Coincide 1 K·write-write-control.ps K·write-write-control.r R·write-write-control.Learnt (λ κs z y e f. (z ≡ y) × (e.1.0.now ≡ f.1.0.now))
+write-write_control κs a z y e f p q = (same p.len q.len, same p.bytes q.bytes)
 
 pub diagnosis-DiagnosticFlags-number : Coincide 0 K·diagnosis-DiagnosticFlags-number.ps K·diagnosis-DiagnosticFlags-number.r R·diagnosis-DiagnosticFlags-number.Learnt (λ κs z y e f. z ≡ y)
 diagnosis-DiagnosticFlags-number κs a z y e f p q = same p.0 q.0
@@ -76,5 +76,5 @@ diagnosis-DiagnosticFlags-number κs a z y e f p q = same p.0 q.0
 pub diagnosis-DiagnosticFlags-is_in : Coincide 0 K·diagnosis-DiagnosticFlags-is-in.ps K·diagnosis-DiagnosticFlags-is-in.r R·diagnosis-DiagnosticFlags-is-in.Learnt (λ κs z y e f. z ≡ y)
 diagnosis-DiagnosticFlags-is_in κs a z y e f p q = same p q
 
-pub diagnosis_store_extended : Coincide 2 K·diagnosis-store-extended.ps K·diagnosis-store-extended.r R·diagnosis-store-extended.Learnt (λ κs z y e f. e.0.now ≡ f.0.now)
-diagnosis_store_extended κs a z y e f p q = same p q
+pub diagnosis-store_extended : Coincide 2 K·diagnosis-store-extended.ps K·diagnosis-store-extended.r R·diagnosis-store-extended.Learnt (λ κs z y e f. e.0.now ≡ f.0.now)
+diagnosis-store_extended κs a z y e f p q = same p q

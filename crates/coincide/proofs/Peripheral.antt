@@ -49,8 +49,8 @@ record-Peripheral-blank κs a z y e f p q = same p q
 pub record-Peripheral-new : Coincide 0 K·record-Peripheral-new.ps K·record-Peripheral-new.r R·record-Peripheral-new.Learnt (λ κs z y e f. z ≡ y)
 record-Peripheral-new κs a z y e f p q = same p q
 
-pub record-Peripheral-reset-address : Coincide 0 K·record-Peripheral-reset-address.ps K·record-Peripheral-reset-address.r R·record-Peripheral-reset-address.Learnt (λ κs z y e f. z ≡ y)
-record-Peripheral-reset-address κs a z y e f p q = same p q
+pub record-Peripheral-reset_address : Coincide 0 K·record-Peripheral-reset-address.ps K·record-Peripheral-reset-address.r R·record-Peripheral-reset-address.Learnt (λ κs z y e f. z ≡ y)
+record-Peripheral-reset_address κs a z y e f p q = same p q
 
 pub record-Peripheral-address : Coincide 0 K·record-Peripheral-address.ps K·record-Peripheral-address.r R·record-Peripheral-address.Learnt (λ κs z y e f. z ≡ y)
 record-Peripheral-address κs a z y e f p q = same p q
@@ -88,8 +88,8 @@ record-Peripheral-visit κs a z y e f p q = same p q
 pub record-Peripheral-header : Coincide 0 K·record-Peripheral-header.ps K·record-Peripheral-header.r R·record-Peripheral-header.Learnt (λ κs z y e f. z ≡ y)
 record-Peripheral-header κs a z y e f p q = same p q
 
-pub record-Peripheral-write-payload : Coincide 3 K·record-Peripheral-write-payload.ps K·record-Peripheral-write-payload.r R·record-Peripheral-write-payload.Learnt (λ κs z y e f. (z ≡ y) × (e.1.1.1.1.1.1.0.now ≡ f.1.1.1.1.1.1.0.now))
-record-Peripheral-write-payload κs a z y e f p q = (same p.len q.len, same p.bytes q.bytes)
+pub record-Peripheral-write_payload : Coincide 3 K·record-Peripheral-write-payload.ps K·record-Peripheral-write-payload.r R·record-Peripheral-write-payload.Learnt (λ κs z y e f. (z ≡ y) × (e.1.1.1.1.1.1.0.now ≡ f.1.1.1.1.1.1.0.now))
+record-Peripheral-write_payload κs a z y e f p q = (same p.len q.len, same p.bytes q.bytes)
 
 pub record-Peripheral-receive_reply : Coincide 1 K·record-Peripheral-receive-reply.ps K·record-Peripheral-receive-reply.r R·record-Peripheral-receive-reply.Learnt (λ κs z y e f. z ≡ y)
 record-Peripheral-receive_reply κs a z y e f p q = same p q

@@ -20,14 +20,14 @@ use Rattle.peripheral_set.proofs.PeripheralHandle.none.Reads as R·PeripheralHan
 use Rattle.peripheral_set.proofs.PeripheralHandle.refusal.Kinds as K·PeripheralHandle-refusal
 use Rattle.peripheral_set.proofs.PeripheralHandle.refusal.Reads as R·PeripheralHandle-refusal
 
-pub first-empty : Coincide 0 K·first-empty.ps K·first-empty.r R·first-empty.Learnt (λ κs z y e f. z ≡ y)
-first-empty κs a z y e f p q = same p q
+pub first_empty : Coincide 0 K·first-empty.ps K·first-empty.r R·first-empty.Learnt (λ κs z y e f. z ≡ y)
+first_empty κs a z y e f p q = same p q
 
 pub at_or_after : Coincide 0 K·at-or-after.ps K·at-or-after.r R·at-or-after.Learnt (λ κs z y e f. z ≡ y)
 at_or_after κs a z y e f p q = same p q
 
-pub next-after : Coincide 0 K·next-after.ps K·next-after.r R·next-after.Learnt (λ κs z y e f. z ≡ y)
-next-after κs a z y e f p q = same p q
+pub next_after : Coincide 0 K·next-after.ps K·next-after.r R·next-after.Learnt (λ κs z y e f. z ≡ y)
+next_after κs a z y e f p q = same p q
 
 pub is_occupied : Coincide 0 K·is-occupied.ps K·is-occupied.r R·is-occupied.Learnt (λ κs z y e f. z ≡ y)
 is_occupied κs a z y e f p q = same p q

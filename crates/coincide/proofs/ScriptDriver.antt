@@ -85,35 +85,35 @@ run-Run-lend κs a z y e f p q = same p q
 pub run-Run-after : Coincide 0 K·run-Run-after.ps K·run-Run-after.r R·run-Run-after.Learnt (λ κs z y e f. z ≡ y)
 run-Run-after κs a z y e f p q = same p q
 
-pub run-call-made : Coincide 0 K·run-call-made.ps K·run-call-made.r R·run-call-made.Learnt (λ κs z y e f. z ≡ y)
-run-call-made κs a z y e f p q = same p q
+pub run-call_made : Coincide 0 K·run-call-made.ps K·run-call-made.r R·run-call-made.Learnt (λ κs z y e f. z ≡ y)
+run-call_made κs a z y e f p q = same p q
 
-pub arrays_front : Coincide 0 K·arrays-front.ps K·arrays-front.r R·arrays-front.Learnt (λ κs z y e f. z ≡ y)
-arrays_front κs a z y e f p q = same p q
+pub arrays-front : Coincide 0 K·arrays-front.ps K·arrays-front.r R·arrays-front.Learnt (λ κs z y e f. z ≡ y)
+arrays-front κs a z y e f p q = same p q
 
-pub arrays_lent : Coincide 1 K·arrays-lent.ps K·arrays-lent.r R·arrays-lent.Learnt (λ κs z y e f. SamePart z y)
-arrays_lent κs a z y e f p q = itself_same p q
+pub arrays-lent : Coincide 1 K·arrays-lent.ps K·arrays-lent.r R·arrays-lent.Learnt (λ κs z y e f. SamePart z y)
+arrays-lent κs a z y e f p q = itself_same p q
 
-pub arrays_fill : Coincide 1 K·arrays-fill.ps K·arrays-fill.r R·arrays-fill.Learnt (λ κs z y e f. e.0.now ≡ f.0.now)
-arrays_fill κs a z y e f p q = same p q
+pub arrays-fill : Coincide 1 K·arrays-fill.ps K·arrays-fill.r R·arrays-fill.Learnt (λ κs z y e f. e.0.now ≡ f.0.now)
+arrays-fill κs a z y e f p q = same p q
 
-pub arrays_fill_list : Coincide 1 K·arrays-fill-list.ps K·arrays-fill-list.r R·arrays-fill-list.Learnt (λ κs z y e f. e.0.now ≡ f.0.now)
-arrays_fill_list κs a z y e f p q = same p q
+pub arrays-fill_list : Coincide 1 K·arrays-fill-list.ps K·arrays-fill-list.r R·arrays-fill-list.Learnt (λ κs z y e f. e.0.now ≡ f.0.now)
+arrays-fill_list κs a z y e f p q = same p q
 
-pub arrays_put-entries : Coincide 1 K·arrays-put-entries.ps K·arrays-put-entries.r R·arrays-put-entries.Learnt (λ κs z y e f. (z ≡ y) × (e.1.0.now ≡ f.1.0.now))
-arrays_put-entries κs a z y e f p q = (same p.len q.len, same p.bytes q.bytes)
+pub arrays-put_entries : Coincide 1 K·arrays-put-entries.ps K·arrays-put-entries.r R·arrays-put-entries.Learnt (λ κs z y e f. (z ≡ y) × (e.1.0.now ≡ f.1.0.now))
+arrays-put_entries κs a z y e f p q = (same p.len q.len, same p.bytes q.bytes)
 
-pub arrays_sums : Coincide 4 K·arrays-sums.ps K·arrays-sums.r R·arrays-sums.Learnt (λ κs z y e f. z ≡ y)
-arrays_sums κs a z y e f p q = same p q
+pub arrays-sums : Coincide 4 K·arrays-sums.ps K·arrays-sums.r R·arrays-sums.Learnt (λ κs z y e f. z ≡ y)
+arrays-sums κs a z y e f p q = same p q
 
-pub calls_fill_pools : Coincide 4 K·calls-fill-pools.ps K·calls-fill-pools.r R·calls-fill-pools.Learnt (λ κs z y e f. (e.1.0.now ≡ f.1.0.now) × (e.1.1.0.now ≡ f.1.1.0.now) × (e.1.1.1.0.now ≡ f.1.1.1.0.now) × (e.1.1.1.1.0.now ≡ f.1.1.1.1.0.now))
-calls_fill_pools κs a z y e f p q = (same p.setup_pool q.setup_pool, same p.input_pool q.input_pool, same p.output_pool q.output_pool, same p.diag_pool q.diag_pool)
+pub calls-fill_pools : Coincide 4 K·calls-fill-pools.ps K·calls-fill-pools.r R·calls-fill-pools.Learnt (λ κs z y e f. (e.1.0.now ≡ f.1.0.now) × (e.1.1.0.now ≡ f.1.1.0.now) × (e.1.1.1.0.now ≡ f.1.1.1.0.now) × (e.1.1.1.1.0.now ≡ f.1.1.1.1.0.now))
+calls-fill_pools κs a z y e f p q = (same p.setup_pool q.setup_pool, same p.input_pool q.input_pool, same p.output_pool q.output_pool, same p.diag_pool q.diag_pool)
 
-pub calls_fill_payload : Coincide 2 K·calls-fill-payload.ps K·calls-fill-payload.r R·calls-fill-payload.Learnt (λ κs z y e f. (e.1.0.now ≡ f.1.0.now) × (e.1.1.0.now ≡ f.1.1.0.now))
-calls_fill_payload κs a z y e f p q = (same p.bytes q.bytes, same p.entries q.entries)
+pub calls-fill_payload : Coincide 2 K·calls-fill-payload.ps K·calls-fill-payload.r R·calls-fill-payload.Learnt (λ κs z y e f. (e.1.0.now ≡ f.1.0.now) × (e.1.1.0.now ≡ f.1.1.0.now))
+calls-fill_payload κs a z y e f p q = (same p.bytes q.bytes, same p.entries q.entries)
 
-pub calls_clear : Coincide 6 K·calls-clear.ps K·calls-clear.r R·calls-clear.Learnt (λ κs z y e f. (e.0.now ≡ f.0.now) × (e.1.0.now ≡ f.1.0.now) × (e.1.1.0.now ≡ f.1.1.0.now) × (e.1.1.1.0.now ≡ f.1.1.1.0.now) × (e.1.1.1.1.0.now ≡ f.1.1.1.1.0.now) × (e.1.1.1.1.1.0.now ≡ f.1.1.1.1.1.0.now))
-calls_clear κs a z y e f p q = (same p.0.setup_pool q.0.setup_pool, same p.0.input_pool q.0.input_pool, same p.0.output_pool q.0.output_pool, same p.0.diag_pool q.0.diag_pool, same p.1.0 q.1.0, same p.1.1 q.1.1)
+pub calls-clear : Coincide 6 K·calls-clear.ps K·calls-clear.r R·calls-clear.Learnt (λ κs z y e f. (e.0.now ≡ f.0.now) × (e.1.0.now ≡ f.1.0.now) × (e.1.1.0.now ≡ f.1.1.0.now) × (e.1.1.1.0.now ≡ f.1.1.1.0.now) × (e.1.1.1.1.0.now ≡ f.1.1.1.1.0.now) × (e.1.1.1.1.1.0.now ≡ f.1.1.1.1.1.0.now))
+calls-clear κs a z y e f p q = (same p.0.setup_pool q.0.setup_pool, same p.0.input_pool q.0.input_pool, same p.0.output_pool q.0.output_pool, same p.0.diag_pool q.0.diag_pool, same p.1.0 q.1.0, same p.1.1 q.1.1)
 
 pub calls-add : Coincide 6 K·calls-add.ps K·calls-add.r R·calls-add.Learnt (λ κs z y e f. (z ≡ y) × (e.1.1.1.1.0.now ≡ f.1.1.1.1.0.now) × (e.1.1.1.1.1.0.now ≡ f.1.1.1.1.1.0.now) × (e.1.1.1.1.1.1.0.now ≡ f.1.1.1.1.1.1.0.now) × (e.1.1.1.1.1.1.1.0.now ≡ f.1.1.1.1.1.1.1.0.now))
 calls-add κs a z y e f p q = (rw (same p.call.refusal q.call.refusal, same p.call.handle q.call.handle, same p.call.after q.call.after) refl, whole a.0.lent.setup (ap (λ (x : Pools). x.setup) (same p.call.written q.call.written)) (same p.setup_pool q.setup_pool), whole a.0.lent.inputs (ap (λ (x : Pools). x.inputs) (same p.call.written q.call.written)) (same p.input_pool q.input_pool), whole a.0.lent.outputs (ap (λ (x : Pools). x.outputs) (same p.call.written q.call.written)) (same p.output_pool q.output_pool), whole a.0.lent.diags (ap (λ (x : Pools). x.diags) (same p.call.written q.call.written)) (same p.diag_pool q.diag_pool))
@@ -127,14 +127,14 @@ calls-reply κs a z y e f p q = (rw (same p.call.after q.call.after, same p.call
 pub calls-write : Coincide 2 K·calls-write.ps K·calls-write.r R·calls-write.Learnt (λ κs z y e f. (z ≡ y) × (e.1.1.1.0.now ≡ f.1.1.1.0.now))
 calls-write κs a z y e f p q = (same p.call.answer q.call.answer, whole a.0.lent.outputs (same p.call.pool q.call.pool) (same p.output_pool q.output_pool))
 
-pub calls-inputs-refusal : Coincide 1 K·calls-inputs-refusal.ps K·calls-inputs-refusal.r R·calls-inputs-refusal.Learnt (λ κs z y e f. z ≡ y)
-calls-inputs-refusal κs a z y e f p q = same p q
+pub calls-inputs_refusal : Coincide 1 K·calls-inputs-refusal.ps K·calls-inputs-refusal.r R·calls-inputs-refusal.Learnt (λ κs z y e f. z ≡ y)
+calls-inputs_refusal κs a z y e f p q = same p q
 
 pub calls-inputs : Coincide 1 K·calls-inputs.ps K·calls-inputs.r R·calls-inputs.Learnt (λ κs z y e f. SamePart z y)
 calls-inputs κs a z y e f p q = itself_same p q
 
-pub calls-outputs-refusal : Coincide 1 K·calls-outputs-refusal.ps K·calls-outputs-refusal.r R·calls-outputs-refusal.Learnt (λ κs z y e f. z ≡ y)
-calls-outputs-refusal κs a z y e f p q = same p q
+pub calls-outputs_refusal : Coincide 1 K·calls-outputs-refusal.ps K·calls-outputs-refusal.r R·calls-outputs-refusal.Learnt (λ κs z y e f. z ≡ y)
+calls-outputs_refusal κs a z y e f p q = same p q
 
 pub calls-outputs : Coincide 1 K·calls-outputs.ps K·calls-outputs.r R·calls-outputs.Learnt (λ κs z y e f. SamePart z y)
 calls-outputs κs a z y e f p q = itself_same p q
@@ -145,17 +145,17 @@ calls-diagnosis κs a z y e f p q = same p q
 pub calls-extended : Coincide 1 K·calls-extended.ps K·calls-extended.r R·calls-extended.Learnt (λ κs z y e f. SamePart z y)
 calls-extended κs a z y e f p q = itself_same p q
 
-pub calls_listing : Coincide 1 K·calls-listing.ps K·calls-listing.r R·calls-listing.Learnt (λ κs z y e f. (z ≡ y) × (e.1.0.now ≡ f.1.0.now))
-calls_listing κs a z y e f p q = (same p.answer q.answer, same p.bytes q.bytes)
+pub calls-listing : Coincide 1 K·calls-listing.ps K·calls-listing.r R·calls-listing.Learnt (λ κs z y e f. (z ≡ y) × (e.1.0.now ≡ f.1.0.now))
+calls-listing κs a z y e f p q = (same p.answer q.answer, same p.bytes q.bytes)
 
-pub pieces_line_end : Coincide 1 K·pieces-line-end.ps K·pieces-line-end.r R·pieces-line-end.Learnt (λ κs z y e f. z ≡ y)
-pieces_line_end κs a z y e f p q = same p q
+pub pieces-line_end : Coincide 1 K·pieces-line-end.ps K·pieces-line-end.r R·pieces-line-end.Learnt (λ κs z y e f. z ≡ y)
+pieces-line_end κs a z y e f p q = same p q
 
-pub pieces_append : Coincide 2 K·pieces-append.ps K·pieces-append.r R·pieces-append.Learnt (λ κs z y e f. (z ≡ y) × (e.1.1.0.now ≡ f.1.1.0.now))
-pieces_append κs a z y e f p q = (same p.came q.came, same p.bytes q.bytes)
+pub pieces-append : Coincide 2 K·pieces-append.ps K·pieces-append.r R·pieces-append.Learnt (λ κs z y e f. (z ≡ y) × (e.1.1.0.now ≡ f.1.1.0.now))
+pieces-append κs a z y e f p q = (same p.came q.came, same p.bytes q.bytes)
 
-pub pieces_unfinished : Coincide 0 K·pieces-unfinished.ps K·pieces-unfinished.r R·pieces-unfinished.Learnt (λ κs z y e f. z ≡ y)
-pieces_unfinished κs a z y e f p q = same p q
+pub pieces-unfinished : Coincide 0 K·pieces-unfinished.ps K·pieces-unfinished.r R·pieces-unfinished.Learnt (λ κs z y e f. z ≡ y)
+pieces-unfinished κs a z y e f p q = same p q
 
-pub room-next-at : Coincide 0 K·room-next-at.ps K·room-next-at.r R·room-next-at.Learnt (λ κs z y e f. z ≡ y)
-room-next-at κs a z y e f p q = same p q
+pub room-next_at : Coincide 0 K·room-next-at.ps K·room-next-at.r R·room-next-at.Learnt (λ κs z y e f. z ≡ y)
+room-next_at κs a z y e f p q = same p q

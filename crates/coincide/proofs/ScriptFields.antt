@@ -49,38 +49,38 @@ use Rattle.script_fields.proofs.write.sum.Reads as R·write-sum
 pub both : {z y : ℕ} {a b : List ℕ} → standing z a ≡ standing y b → (z ≡ y) × (a ≡ b)
 both w = (ap (λ (o : Out). o.at) w, ap (λ (o : Out). o.bytes) w)
 
-pub read_digits : Coincide 1 K·read-digits.ps K·read-digits.r R·read-digits.Learnt (λ κs z y e f. z ≡ y)
-read_digits κs a z y e f p q = same p q
+pub read-digits : Coincide 1 K·read-digits.ps K·read-digits.r R·read-digits.Learnt (λ κs z y e f. z ≡ y)
+read-digits κs a z y e f p q = same p q
 
-pub read_space : Coincide 1 K·read-space.ps K·read-space.r R·read-space.Learnt (λ κs z y e f. z ≡ y)
-read_space κs a z y e f p q = same p q
+pub read-space : Coincide 1 K·read-space.ps K·read-space.r R·read-space.Learnt (λ κs z y e f. z ≡ y)
+read-space κs a z y e f p q = same p q
 
-pub read_number : Coincide 1 K·read-number.ps K·read-number.r R·read-number.Learnt (λ κs z y e f. z ≡ y)
-read_number κs a z y e f p q = same p q
+pub read-number : Coincide 1 K·read-number.ps K·read-number.r R·read-number.Learnt (λ κs z y e f. z ≡ y)
+read-number κs a z y e f p q = same p q
 
-pub read_small : Coincide 1 K·read-small.ps K·read-small.r R·read-small.Learnt (λ κs z y e f. z ≡ y)
-read_small κs a z y e f p q = same p q
+pub read-small : Coincide 1 K·read-small.ps K·read-small.r R·read-small.Learnt (λ κs z y e f. z ≡ y)
+read-small κs a z y e f p q = same p q
 
-pub read_wide_number : Coincide 1 K·read-wide-number.ps K·read-wide-number.r R·read-wide-number.Learnt (λ κs z y e f. z ≡ y)
-read_wide_number κs a z y e f p q = same p q
+pub read-wide_number : Coincide 1 K·read-wide-number.ps K·read-wide-number.r R·read-wide-number.Learnt (λ κs z y e f. z ≡ y)
+read-wide_number κs a z y e f p q = same p q
 
-pub read_word : Coincide 1 K·read-word.ps K·read-word.r R·read-word.Learnt (λ κs z y e f. z ≡ y)
-read_word κs a z y e f p q = same p q
+pub read-word : Coincide 1 K·read-word.ps K·read-word.r R·read-word.Learnt (λ κs z y e f. z ≡ y)
+read-word κs a z y e f p q = same p q
 
-pub read_flag : Coincide 1 K·read-flag.ps K·read-flag.r R·read-flag.Learnt (λ κs z y e f. z ≡ y)
-read_flag κs a z y e f p q = same p q
+pub read-flag : Coincide 1 K·read-flag.ps K·read-flag.r R·read-flag.Learnt (λ κs z y e f. z ≡ y)
+read-flag κs a z y e f p q = same p q
 
-pub read_bytes : Coincide 2 K·read-bytes.ps K·read-bytes.r R·read-bytes.Learnt (λ κs z y e f. (z ≡ y) × (e.1.1.0.now ≡ f.1.1.0.now))
-read_bytes κs a z y e f p q = (same p.answer q.answer, same p.bytes q.bytes)
+pub read-bytes : Coincide 2 K·read-bytes.ps K·read-bytes.r R·read-bytes.Learnt (λ κs z y e f. (z ≡ y) × (e.1.1.0.now ≡ f.1.1.0.now))
+read-bytes κs a z y e f p q = (same p.answer q.answer, same p.bytes q.bytes)
 
-pub read_setup : Coincide 2 K·read-setup.ps K·read-setup.r R·read-setup.Learnt (λ κs z y e f. (z ≡ y) × (e.1.1.0.now ≡ f.1.1.0.now))
-read_setup κs a z y e f p q = (same p.answer q.answer, same p.bytes q.bytes)
+pub read-setup : Coincide 2 K·read-setup.ps K·read-setup.r R·read-setup.Learnt (λ κs z y e f. (z ≡ y) × (e.1.1.0.now ≡ f.1.1.0.now))
+read-setup κs a z y e f p q = (same p.answer q.answer, same p.bytes q.bytes)
 
-pub read_ends : Coincide 1 K·read-ends.ps K·read-ends.r R·read-ends.Learnt (λ κs z y e f. z ≡ y)
-read_ends κs a z y e f p q = same p q
+pub read-ends : Coincide 1 K·read-ends.ps K·read-ends.r R·read-ends.Learnt (λ κs z y e f. z ≡ y)
+read-ends κs a z y e f p q = same p q
 
-pub write_wide : Coincide 0 K·write-wide.ps K·write-wide.r R·write-wide.Learnt (λ κs z y e f. z ≡ y)
-write_wide κs a z y e f p q = same p.0 q.0
+pub write-wide : Coincide 0 K·write-wide.ps K·write-wide.r R·write-wide.Learnt (λ κs z y e f. z ≡ y)
+write-wide κs a z y e f p q = same p.0 q.0
 
 pub write-put : Coincide 1 K·write-put.ps K·write-put.r R·write-put.Learnt (λ κs z y e f. (z ≡ y) × (e.0.now ≡ f.0.now))
 write-put κs a z y e f p q = both (same p q)
@@ -91,17 +91,17 @@ write-number κs a z y e f p q = both (same p q)
 pub write-flag : Coincide 0 K·write-flag.ps K·write-flag.r R·write-flag.Learnt (λ κs z y e f. z ≡ y)
 write-flag κs a z y e f p q = same p q
 
-pub write_field : Coincide 1 K·write-field.ps K·write-field.r R·write-field.Learnt (λ κs z y e f. (z ≡ y) × (e.0.now ≡ f.0.now))
-write_field κs a z y e f p q = both (same p q)
+pub write-field : Coincide 1 K·write-field.ps K·write-field.r R·write-field.Learnt (λ κs z y e f. (z ≡ y) × (e.0.now ≡ f.0.now))
+write-field κs a z y e f p q = both (same p q)
 
-pub write_fields : Coincide 2 K·write-fields.ps K·write-fields.r R·write-fields.Learnt (λ κs z y e f. (z ≡ y) × (e.0.now ≡ f.0.now))
-write_fields κs a z y e f p q = both (same p q)
+pub write-fields : Coincide 2 K·write-fields.ps K·write-fields.r R·write-fields.Learnt (λ κs z y e f. (z ≡ y) × (e.0.now ≡ f.0.now))
+write-fields κs a z y e f p q = both (same p q)
 
-pub write_byte_fields : Coincide 2 K·write-byte-fields.ps K·write-byte-fields.r R·write-byte-fields.Learnt (λ κs z y e f. (z ≡ y) × (e.0.now ≡ f.0.now))
-write_byte_fields κs a z y e f p q = both (same p q)
+pub write-byte_fields : Coincide 2 K·write-byte-fields.ps K·write-byte-fields.r R·write-byte-fields.Learnt (λ κs z y e f. (z ≡ y) × (e.0.now ≡ f.0.now))
+write-byte_fields κs a z y e f p q = both (same p q)
 
-pub write_bytes : Coincide 2 K·write-bytes.ps K·write-bytes.r R·write-bytes.Learnt (λ κs z y e f. (z ≡ y) × (e.0.now ≡ f.0.now))
-write_bytes κs a z y e f p q = both (same p q)
+pub write-bytes : Coincide 2 K·write-bytes.ps K·write-bytes.r R·write-bytes.Learnt (λ κs z y e f. (z ≡ y) × (e.0.now ≡ f.0.now))
+write-bytes κs a z y e f p q = both (same p q)
 
 pub write-sum : Coincide 1 K·write-sum.ps K·write-sum.r R·write-sum.Learnt (λ κs z y e f. z ≡ y)
 write-sum κs a z y e f p q = same p q

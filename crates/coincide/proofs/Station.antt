@@ -60,8 +60,8 @@ record-Station-request_diagnostics κs a z y e f p q = same p q
 pub record-Station-last_diagnostics : Coincide 0 K·record-Station-last-diagnostics.ps K·record-Station-last-diagnostics.r R·record-Station-last-diagnostics.Learnt (λ κs z y e f. z ≡ y)
 record-Station-last_diagnostics κs a z y e f p q = same p q
 
-pub record-Station-stored-part : Coincide 0 K·record-Station-stored-part.ps K·record-Station-stored-part.r R·record-Station-stored-part.Learnt (λ κs z y e f. z ≡ y)
-record-Station-stored-part κs a z y e f p q = same p q
+pub record-Station-stored_part : Coincide 0 K·record-Station-stored-part.ps K·record-Station-stored-part.r R·record-Station-stored-part.Learnt (λ κs z y e f. z ≡ y)
+record-Station-stored_part κs a z y e f p q = same p q
 
 pub state-PeripheralState-number : Coincide 0 K·state-PeripheralState-number.ps K·state-PeripheralState-number.r R·state-PeripheralState-number.Learnt (λ κs z y e f. z ≡ y)
 state-PeripheralState-number κs a z y e f p q = same p q

@@ -1,4 +1,4 @@
--- `main` is safe and ends: the loop's invariant: the lent arrays keep their lengths.
+-- `main` is safe and ends. The loop's invariant: the lent arrays keep their lengths.
 use mathlib.Core.Path.{◌≡◌}
 use lib.ListN.{length}
 use Rattle.first_program.proofs.main.Given as goal

@@ -1,8 +1,8 @@
 -- `parse` meets its contract: an arm for each letter, whose law is that of the call; the other array, or both, stay as they are.
 use mathlib.Core.Path.{refl}
-use borrow.Author.Tests.{ne_eqb}
 use Rattle.script_lines.specs.Call.{call_for, first_for, second_for}
 use Rattle.script_lines.proofs.Calling.{plain-call, add-call, reply-call, write-call, no_call}
+use borrow.Author.Rules.{rules}
 use Rattle.script_lines.proofs.parse.Goals as goal
 
 pub returns-in-78 : goal.returns-in-78
@@ -75,7 +75,5 @@ returns-in-66 c = plain-call c.args.s.now c.args.a.now c.args.b.now _ c.byte_at-
 
 pub returns-in_default : goal.returns-in_default
 unfolding call_for first_for second_for
-returns-in_default c = no_call c.args.s.now c.args.a.now c.args.b.now c.byte_at-letter.result c.byte_at-letter.ensures
-    (simp (ne_eqb _ _ c.in_default.in_default-own.rest.1, ne_eqb _ _ c.in_default.in_default-own.rest.0.1, ne_eqb _ _ c.in_default.in_default-own.rest.0.0.1, ne_eqb _ _ c.in_default.in_default-own.rest.0.0.0.1, ne_eqb _ _ c.in_default.in_default-own.rest.0.0.0.0.1, ne_eqb _ _ c.in_default.in_default-own.rest.0.0.0.0.0.1, ne_eqb _ _ c.in_default.in_default-own.rest.0.0.0.0.0.0.1, ne_eqb _ _ c.in_default.in_default-own.rest.0.0.0.0.0.0.0.1, ne_eqb _ _ c.in_default.in_default-own.rest.0.0.0.0.0.0.0.0.1, ne_eqb _ _ c.in_default.in_default-own.rest.0.0.0.0.0.0.0.0.0.1, ne_eqb _ _ c.in_default.in_default-own.rest.0.0.0.0.0.0.0.0.0.0.1, ne_eqb _ _ c.in_default.in_default-own.rest.0.0.0.0.0.0.0.0.0.0.0.1, ne_eqb _ _ c.in_default.in_default-own.rest.0.0.0.0.0.0.0.0.0.0.0.0.1, ne_eqb _ _ c.in_default.in_default-own.rest.0.0.0.0.0.0.0.0.0.0.0.0.0.1, ne_eqb _ _ c.in_default.in_default-own.rest.0.0.0.0.0.0.0.0.0.0.0.0.0.0.1, ne_eqb _ _ c.in_default.in_default-own.rest.0.0.0.0.0.0.0.0.0.0.0.0.0.0.0.1, ne_eqb _ _ c.in_default.in_default-own.rest.0.0.0.0.0.0.0.0.0.0.0.0.0.0.0.0.1))
-    (simp (ne_eqb _ _ c.in_default.in_default-own.rest.0.0.0.0.0.0.1, ne_eqb _ _ c.in_default.in_default-own.rest.0.0.0.0.0.0.0.0.0.1, ne_eqb _ _ c.in_default.in_default-own.rest.0.0.0.0.0.0.0.0.0.0.0.0.1))
-    (simp (ne_eqb _ _ c.in_default.in_default-own.rest.0.0.0.0.0.0.0.0.0.0.0.0.1))
+returns-in_default c =
+    no_call c.args.s.now c.args.a.now c.args.b.now c.byte_at-letter.result c.byte_at-letter.ensures (search rules) (search rules) (search rules)

@@ -1,7 +1,7 @@
 -- `reply_of` meets its contract: an arm for each kind.
 use mathlib.Core.Path.{sym, ◌∙◌}
-use borrow.Author.Tests.{ne_eqb}
 use Rattle.script_lines.specs.Running.{reply_read}
+use borrow.Author.Rules.{rules}
 use Rattle.script_lines.proofs.reply_of.Goals as goal
 
 pub returns-then-bare : goal.returns-then-bare
@@ -26,4 +26,4 @@ returns-else-bare-2 c = simp (c.in-2.is, sym c.is_bare-bare.ensures ∙ c.if-bar
 
 pub returns-in_default : goal.returns-in_default
 unfolding reply_read
-returns-in_default c = simp (c.replied-in_default.ensures, ne_eqb _ _ c.in_default.in_default-own.rest.0.0.1, ne_eqb _ _ c.in_default.in_default-own.rest.0.1, ne_eqb _ _ c.in_default.in_default-own.rest.1)
+returns-in_default c = search rules

@@ -32,7 +32,7 @@ pub slice_bounds-copy_at-start : goal.slice_bounds-copy_at-start
 slice_bounds-copy_at-start c = omega (arith, room (goal.at.slice_bounds-copy_at-start c).Then-inside, kept (goal.at.slice_bounds-copy_at-start c).After-write_head)
 
 pub returns-then-inside : goal.returns-then-inside
-returns-then-inside c = let w = c.if-inside in let a = c.args in built a.u a.o a.user.now a.buf.now c.write_head.new.buf c.copy_at.new.dst (fits (goal.at.returns-then-inside c).Then-inside) c.write_head.ensures c.copy_at.ensures.bytes
+returns-then-inside c = let a = c.args in built a.u a.o a.user.now a.buf.now c.write_head.new.buf c.copy_at.new.dst (fits (goal.at.returns-then-inside c).Then-inside) c.write_head.ensures c.copy_at.ensures.bytes
 
 pub returns : goal.returns
 returns c = let a = c.args in unbuilt a.u a.o a.user.now a.buf.now (sym c.inside.ensures ∙ c.if-inside.false)

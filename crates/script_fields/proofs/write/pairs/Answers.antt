@@ -11,9 +11,6 @@ use Rattle.script_fields.proofs.write.pairs.Goals as goal
 pub loop-i-init : goal.loop-i-init
 loop-i-init c = (omega arith, refl, refl)
 
-pub hex-requires : goal.hex-requires
-hex-requires c = omega (arith, c.shared_slice_known-in-loop-i-1.given c.loop-i.i)
-
 pub loop-i-preserved : goal.loop-i-preserved
 loop-i-preserved c = let l = c.args.list.now in
     let i = c.loop-i.i in
