@@ -1,8 +1,9 @@
 // The parameters of a unit.
 ghost use Rattle.std.specs.Prelude.{◌≡◌, cond};
+ghost use Rattle.refusals.specs.Table.{outcome};
 ghost use Rattle.fdl.specs.Params.{creation_refusal, in_force, lowest};
 
-use refusals::{DONE, MAX_ADDRESS, MAX_POOL, MAX_RETRIES, MAX_SLOT_TIME};
+use refusals::{MAX_ADDRESS, MAX_POOL, MAX_RETRIES, MAX_SLOT_TIME, Refusal};
 
 // What a unit is created with, and what it holds of that from then on.
 #[repr(C)]
@@ -40,27 +41,28 @@ fn factor(watchdog: bool, f: u8) -> u8
 }
 
 impl Parameters {
-    // 1 where one is outside its range, else 0; min Tsdr and the watchdog factors are bytes, of which each is in range.
-    pub fn refusal(self) -> u8
-        ensures { result ≡ creation_refusal self }
+    // Refused as 1 where one is outside its range; min Tsdr and the watchdog factors are bytes, of which each is in range.
+    pub fn refusal(self) -> Result<(), Refusal>
+        ensures { result ≡ outcome (creation_refusal self) }
     {
-        let n = refusals::parameter(DONE, 0, MAX_ADDRESS as u32, self.address as u32);
-        let n = refusals::parameter(n, 0, MAX_RETRIES, self.max_retry_limit as u32);
-        let n = refusals::parameter(n, 1, MAX_SLOT_TIME, self.slot_time);
-        let n = refusals::parameter(n, 0, MAX_POOL, self.setup_pool as u32);
-        let n = refusals::parameter(n, 0, MAX_POOL, self.input_pool as u32);
-        let n = refusals::parameter(n, 0, MAX_POOL, self.output_pool as u32);
-        refusals::parameter(n, 0, MAX_POOL, self.diag_pool as u32)
+        refusals::parameter(0, u32::from(MAX_ADDRESS), u32::from(self.address))
+            .and(refusals::parameter(0, MAX_RETRIES, u32::from(self.max_retry_limit)))
+            .and(refusals::parameter(1, MAX_SLOT_TIME, self.slot_time))
+            .and(refusals::parameter(0, MAX_POOL, u32::from(self.setup_pool)))
+            .and(refusals::parameter(0, MAX_POOL, u32::from(self.input_pool)))
+            .and(refusals::parameter(0, MAX_POOL, u32::from(self.output_pool)))
+            .and(refusals::parameter(0, MAX_POOL, u32::from(self.diag_pool)))
     }
 
     // As a record holds them: with the watchdog off its factors are 0. DECISIONS 9
     pub fn in_force(self) -> Parameters
         ensures { result ≡ in_force self }
     {
-        let mut p = self;
-        p.watchdog_first = factor(self.watchdog, self.watchdog_first);
-        p.watchdog_second = factor(self.watchdog, self.watchdog_second);
-        p
+        Parameters {
+            watchdog_first: factor(self.watchdog, self.watchdog_first),
+            watchdog_second: factor(self.watchdog, self.watchdog_second),
+            ..self
+        }
     }
 
     // All at their lowest, as a refused creation has them.

@@ -1,6 +1,8 @@
--- The table of refusals: its numbers and limits by name, a definition for each row, and the number that a list of rows answers.
+-- The table of refusals: its numbers and limits by name, a definition for each row, the number that a list of rows answers, and what a call answers for a number.
 -- From 01, "Refusal numbers", with the limits of "The unit and its sizes".
-use Rattle.std.specs.Prelude.{ℕ, ◌+◌, Bool, not, ◌||◌, cond, List, [], ◌∷◌, ltb, leb, eqb}
+use Rattle.std.specs.Prelude.{ℕ, ◌+◌, Bool, not, ◌||◌, cond, List, [], ◌∷◌, ltb, leb, eqb, Result, Ok, Err}
+use Rattle.refusals.specs.declared.Refusal.{Refusal}
+use Rattle.refusals.specs.declared.Refusal.TheVariants.{BadParameter, BadLent, EarlyTurn, BadHandle, TableFull, BadAddress, TooLong, NoRoom, NotAsked, Unusable, BadLength}
 
 -- ---- the limits
 
@@ -74,6 +76,19 @@ unusable = 10
 
 abbrev pub bad_length : ℕ
 bad_length = 11
+
+abbrev pub refusal_number : Refusal → ℕ
+refusal_number BadParameter = bad_parameter
+refusal_number BadLent = bad_lent
+refusal_number EarlyTurn = early_turn
+refusal_number BadHandle = bad_handle
+refusal_number TableFull = table_full
+refusal_number BadAddress = bad_address
+refusal_number TooLong = too_long
+refusal_number NoRoom = no_room
+refusal_number NotAsked = not_asked
+refusal_number Unusable = unusable
+refusal_number BadLength = bad_length
 
 -- ---- the rows, in the table's order
 
@@ -152,3 +167,32 @@ said r = cond r.applies r.number 0
 -- the first of two numbers that is not 0
 unfoldable pub or_else : ℕ → ℕ → ℕ
 or_else n next = cond (eqb n 0) next n
+
+-- ---- what a call answers
+
+-- the refusal of a number of the table; no row has another number
+abbrev pub refusal_numbered : ℕ → Refusal
+refusal_numbered n =
+    cond (eqb n bad_parameter) BadParameter
+    (cond (eqb n bad_lent) BadLent
+    (cond (eqb n early_turn) EarlyTurn
+    (cond (eqb n bad_handle) BadHandle
+    (cond (eqb n table_full) TableFull
+    (cond (eqb n bad_address) BadAddress
+    (cond (eqb n too_long) TooLong
+    (cond (eqb n no_room) NoRoom
+    (cond (eqb n not_asked) NotAsked
+    (cond (eqb n unusable) Unusable BadLength)))))))))
+
+-- a value where the number is 0, else the refusal of the number
+unfoldable pub given : {A : Type 0} → ℕ → A → Result A Refusal
+given n v = cond (eqb n 0) (Ok v) (Err (refusal_numbered n))
+
+-- done where the number is 0, else the refusal of the number
+abbrev pub outcome : ℕ → Result Unit Refusal
+outcome n = given n tt
+
+-- the number of an answer: 0 where it is done
+abbrev pub number_of : {A : Type 0} → Result A Refusal → ℕ
+number_of (Ok v) = 0
+number_of (Err r) = refusal_number r
