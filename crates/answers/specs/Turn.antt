@@ -1,6 +1,6 @@
 -- What a turn sends, its payload, and its answer.
 -- From 01, "One turn", with what a refusal answers from "Refusal numbers".
-use Rattle.std.specs.Prelude.{◌≡◌, ℕ, Bool, false, cond, List, [], length, eqb}
+use Rattle.std.specs.Prelude.{◌≡◌, ℕ, Bool, false, cond, List, [], length, Option, Some, None}
 use Rattle.parts.specs.Parts.{put_in}
 use Rattle.fdl.specs.declared.parameters.Parameters.{Parameters}
 use Rattle.payloads.specs.Request.{control_header}
@@ -13,7 +13,6 @@ use Rattle.peripheral_set.specs.declared.PeripheralHandle.{PeripheralHandle}
 use Rattle.peripheral_set.specs.Marks.{no_handle}
 use Rattle.cycle.specs.declared.seen.Seen.{Seen}
 use Rattle.cycle.specs.declared.seen.Sent.{Sent}
-use Rattle.cycle.specs.declared.seen.Sent.TheVariants.{Nobody, To}
 use Rattle.cycle.specs.declared.state.Step.{Step}
 use Rattle.cycle.specs.declared.state.Step.TheVariants.{Halt, Control, Back, Visits}
 use Rattle.cycle.specs.Seen.{idle}
@@ -24,46 +23,48 @@ use Rattle.answers.specs.declared.turn.TurnAnswer.{TurnAnswer}
 
 -- ---- what is sent
 
-abbrev pub visits_transmit : Sent → Peripheral → Parameters → Transmission
-visits_transmit Nobody p u = NothingSent
-visits_transmit (To slot k) p u = RequestSent slot k (request_header k u.address p)
+abbrev pub visits_transmit : Option Sent → Peripheral → Parameters → Transmission
+visits_transmit None p u = NothingSent
+visits_transmit (Some sent) p u = RequestSent sent.slot sent.kind (request_header sent.kind u.address p)
 
 -- p is the balance that it goes to
-abbrev pub transmission_of : Step → Sent → Peripheral → Parameters → Transmission
+abbrev pub transmission_of : Step → Option Sent → Peripheral → Parameters → Transmission
 transmission_of Halt sent p u = NothingSent
 transmission_of Control sent p u = ControlSent (control_header u.address)
 transmission_of Back sent p u = NothingSent
 transmission_of Visits sent p u = visits_transmit sent p u
 
-abbrev pub visits_payload : Sent → Peripheral → Parameters → Bool → List ℕ → List ℕ → List ℕ
-visits_payload Nobody p u clear setup outputs = []
-visits_payload (To slot k) p u clear setup outputs = payload_of k u clear p setup outputs
+abbrev pub visits_payload : Option Sent → Peripheral → Parameters → Bool → List ℕ → List ℕ → List ℕ
+visits_payload None p u clear setup outputs = []
+visits_payload (Some sent) p u clear setup outputs = payload_of sent.kind u clear p setup outputs
 
-abbrev pub payload_sent : Step → Sent → Peripheral → Parameters → Bool → List ℕ → List ℕ → List ℕ
+abbrev pub payload_sent : Step → Option Sent → Peripheral → Parameters → Bool → List ℕ → List ℕ → List ℕ
 payload_sent Halt sent p u clear setup outputs = []
 payload_sent Control sent p u clear setup outputs = control_payload clear
 payload_sent Back sent p u clear setup outputs = []
 payload_sent Visits sent p u clear setup outputs = visits_payload sent p u clear setup outputs
 
 -- how long the payload is that stands in the buffer, and what was sent; a payload that does not fit is not written (DECISIONS 25)
-abbrev pub filled_of : Step → Sent → Peripheral → Parameters → List ℕ → List ℕ → Filled
+abbrev pub filled_of : Step → Option Sent → Peripheral → Parameters → List ℕ → List ℕ → Filled
 filled_of step sent p u payload buf = record { len = length_in payload buf; transmission = transmission_of step sent p u }
 
-pub record Filling (step : Step) (sent : Sent) (p : Peripheral) (u : Parameters) (payload buf out : List ℕ) (r : Filled) : Type 0 where
+pub record Filling (step : Step) (sent : Option Sent) (p : Peripheral) (u : Parameters) (payload buf out : List ℕ) (r : Filled) : Type 0 where
   pub answer : r ≡ filled_of step sent p u payload buf
   pub bytes : out ≡ put_in 0 (length payload) payload buf
 
 -- ---- the answer
 
 -- the handle of the first balance that fell; none where none did
-abbrev pub handle_of : ℕ → ℕ → PeripheralHandle
-handle_of first address = cond (eqb first 255) no_handle (record { slot = first; address = address })
+abbrev pub handle_of : Option ℕ → ℕ → PeripheralHandle
+handle_of None address = no_handle
+handle_of (Some slot) address = record { slot = slot; address = address }
 
-abbrev pub offline_event : ℕ → PeripheralEvent
-offline_event first = cond (eqb first 255) NoEvent WentOffline
+abbrev pub offline_event : Option ℕ → PeripheralEvent
+offline_event None = NoEvent
+offline_event (Some slot) = WentOffline
 
 -- past the last: cycle-completed true; in steps 1 to 3 and where one sent it is false
-abbrev pub completes_of : Step → Sent → Bool
+abbrev pub completes_of : Step → Option Sent → Bool
 completes_of Halt sent = false
 completes_of Control sent = false
 completes_of Back sent = false

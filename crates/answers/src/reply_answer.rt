@@ -28,20 +28,9 @@ pub struct ReplyAnswer {
 fn event_handle(event: PeripheralEvent, slot: u8, address: u8) -> PeripheralHandle
     ensures { result ≡ event_handle event slot address }
 {
-    let none = PeripheralHandle::none();
-    let here = PeripheralHandle {
-        slot: slot,
-        address: address,
-    };
     match event {
-        PeripheralEvent::NoEvent => none,
-        PeripheralEvent::Online => here,
-        PeripheralEvent::Configured => here,
-        PeripheralEvent::ConfigError => here,
-        PeripheralEvent::ParameterError => here,
-        PeripheralEvent::DataExchanged => here,
-        PeripheralEvent::Diagnostics => here,
-        PeripheralEvent::Offline => here,
+        PeripheralEvent::NoEvent => PeripheralHandle::none(),
+        _ => PeripheralHandle { slot, address },
     }
 }
 
@@ -49,12 +38,11 @@ impl ReplyAnswer {
     fn refused(refusal: u8) -> ReplyAnswer
         ensures { result ≡ refused_reply refusal }
     {
-        let handle = PeripheralHandle::none();
         ReplyAnswer {
-            refusal: refusal,
+            refusal,
             cycle_completed: false,
             event: PeripheralEvent::NoEvent,
-            handle: handle,
+            handle: PeripheralHandle::none(),
         }
     }
 }
@@ -78,51 +66,44 @@ pub fn judge(
     u: Parameters,
     s: DpMasterState,
     p: Peripheral,
-    marks: [bool; SLOTS],
+    marks: &[bool; SLOTS],
     address: u8,
     telegram: Telegram,
     payload: &[u8],
     inputs: usize,
     diags: usize,
 ) -> Judged
-    ensures { result ≡ judged_of u s p marks address telegram payload.now inputs diags }
+    ensures { result ≡ judged_of u s p marks.now address telegram payload.now inputs diags }
 {
-    let asked = p.address();
     let refusal = cycle::refusal::reply_refusal(
         u,
         s,
-        asked,
+        p.address(),
         address,
         telegram,
         payload.len(),
         inputs,
         diags,
     );
-    if refusal != 0 {
+    if let Err(refusal) = refusal {
         return Judged {
             peripheral: p,
             state: s,
             keeps: Keeps::Neither,
-            answer: ReplyAnswer::refused(refusal),
+            answer: ReplyAnswer::refused(u8::from(refusal)),
         };
     }
-    let kind = Request::of(s.open_kind);
-    let r = p.receive_reply(kind, telegram, payload, inputs, diags);
-    let q = r.peripheral;
-    let event = r.event;
-    let keeps = r.keeps;
+    let r = p.receive_reply(Request::of(s.open_kind), telegram, payload, inputs, diags);
     let next = peripheral_set::next_after(marks, cycle::seen::index(s.open_slot));
-    let after = s.answered(next);
-    let handle = event_handle(event, s.open_slot, asked);
     Judged {
-        peripheral: q,
-        state: after,
-        keeps: keeps,
+        peripheral: r.peripheral,
+        state: s.answered(next),
+        keeps: r.keeps,
         answer: ReplyAnswer {
             refusal: 0,
-            cycle_completed: SLOTS <= next,
-            event: event,
-            handle: handle,
+            cycle_completed: next.is_none(),
+            event: r.event,
+            handle: event_handle(r.event, s.open_slot, p.address()),
         },
     }
 }

@@ -57,20 +57,22 @@ pub struct TurnAnswer {
     pub transmission: Transmission,
 }
 
-// What was sent, with the length of its payload.
-fn with_len(len: usize, transmission: Transmission) -> Filled
-    ensures { result ≡ (record { len = len; transmission = transmission }) }
-{
-    Filled {
-        len: len,
-        transmission: transmission,
+impl Filled {
+    // Nothing was sent.
+    fn nothing() -> Filled
+        ensures { result ≡ (record { len = 0; transmission = Transmission.Nothing }) }
+    {
+        Filled {
+            len: 0,
+            transmission: Transmission::Nothing,
+        }
     }
 }
 
 // Puts the payload of what is sent at the front of `buf`; `p` is the balance that it goes to.
 pub fn fill(
     step: Step,
-    sent: Sent,
+    sent: Option<Sent>,
     p: Peripheral,
     u: Parameters,
     clear: bool,
@@ -81,41 +83,53 @@ pub fn fill(
     ensures { Filling step sent p u (payload_sent step sent p u clear setup.now outputs.now) buf.old buf.new result }
 {
     match step {
-        Step::Halt => with_len(0, Transmission::Nothing),
-        Step::Back => with_len(0, Transmission::Nothing),
-        Step::Control => {
-            let len = payloads::write::write_control(clear, buf);
-            let header = payloads::request::control_header(u.address);
-            with_len(len, Transmission::Control(header))
-        }
+        Step::Halt => Filled::nothing(),
+        Step::Back => Filled::nothing(),
+        Step::Control => Filled {
+            len: payloads::write::write_control(clear, buf),
+            transmission: Transmission::Control(payloads::request::control_header(u.address)),
+        },
         Step::Visits => match sent {
-            Sent::Nobody => with_len(0, Transmission::Nothing),
-            Sent::To(slot, kind) => {
-                let header = p.header(kind, u.address);
-                let len = p.write_payload(kind, u, clear, setup, outputs, buf);
-                with_len(
-                    len,
-                    Transmission::Request {
-                        slot: slot,
-                        kind: kind,
-                        header: header,
-                    },
-                )
-            }
+            None => Filled::nothing(),
+            Some(Sent { slot, kind }) => Filled {
+                len: p.write_payload(kind, u, clear, setup, outputs, buf),
+                transmission: Transmission::Request {
+                    slot,
+                    kind,
+                    header: p.header(kind, u.address),
+                },
+            },
         },
     }
 }
 
 // The handle of the first balance that fell; no slot and no address where none did.
-fn handle_of(first: u8, address: u8) -> PeripheralHandle
+fn handle_of(first: Option<u8>, address: u8) -> PeripheralHandle
     ensures { result ≡ handle_of first address }
 {
-    if first == 255 {
-        return PeripheralHandle::none();
+    match first {
+        None => PeripheralHandle::none(),
+        Some(slot) => PeripheralHandle { slot, address },
     }
-    PeripheralHandle {
-        slot: first,
-        address: address,
+}
+
+// The event of a turn: Offline where a balance fell.
+fn offline_event(first: Option<u8>) -> PeripheralEvent
+    ensures { result ≡ offline_event first }
+{
+    match first {
+        None => PeripheralEvent::NoEvent,
+        Some(_) => PeripheralEvent::Offline,
+    }
+}
+
+// Whether the visits passed the last slot.
+fn completes(step: Step, sent: Option<Sent>) -> bool
+    ensures { result ≡ completes_of step sent }
+{
+    match step {
+        Step::Visits => sent.is_none(),
+        _ => false,
     }
 }
 
@@ -124,13 +138,12 @@ impl TurnAnswer {
     pub fn refused(refusal: u8) -> TurnAnswer
         ensures { result ≡ refused_turn refusal }
     {
-        let handle = PeripheralHandle::none();
         TurnAnswer {
-            refusal: refusal,
+            refusal,
             cycle_completed: false,
             offline: 0,
             event: PeripheralEvent::NoEvent,
-            handle: handle,
+            handle: PeripheralHandle::none(),
             len: 0,
             transmission: Transmission::Nothing,
         }
@@ -140,45 +153,14 @@ impl TurnAnswer {
     pub fn of(step: Step, seen: Seen, address: u8, filled: Filled) -> TurnAnswer
         ensures { result ≡ answer_of step seen address filled }
     {
-        let len = filled.len;
-        let transmission = filled.transmission;
-        let event = offline_event(seen.first);
-        let handle = handle_of(seen.first, address);
-        let sent = seen.sent;
-        let completed = completes(step, sent);
         TurnAnswer {
             refusal: 0,
-            cycle_completed: completed,
+            cycle_completed: completes(step, seen.sent),
             offline: seen.mask,
-            event: event,
-            handle: handle,
-            len: len,
-            transmission: transmission,
+            event: offline_event(seen.first),
+            handle: handle_of(seen.first, address),
+            len: filled.len,
+            transmission: filled.transmission,
         }
-    }
-}
-
-// The event of a turn: Offline where a balance fell.
-fn offline_event(first: u8) -> PeripheralEvent
-    ensures { result ≡ offline_event first }
-{
-    if first == 255 {
-        return PeripheralEvent::NoEvent;
-    }
-    PeripheralEvent::Offline
-}
-
-// Whether the visits passed the last slot.
-fn completes(step: Step, sent: Sent) -> bool
-    ensures { result ≡ completes_of step sent }
-{
-    match step {
-        Step::Halt => false,
-        Step::Control => false,
-        Step::Back => false,
-        Step::Visits => match sent {
-            Sent::Nobody => true,
-            Sent::To(_, _) => false,
-        },
     }
 }

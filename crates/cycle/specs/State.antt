@@ -1,10 +1,9 @@
 -- The master's own state: operating state, cycle place, open request, times; what a turn does, and what turns, replies and resets leave of it.
 -- From 01, "The unit and its sizes" (a fresh unit), "Refusal numbers" (open requests) and "One turn".
-use Rattle.std.specs.Prelude.{ℕ, ◌-◌, ◌*◌, Bool, true, false, not, ◌&&◌, cond, ltb, leb, eqb}
+use Rattle.std.specs.Prelude.{ℕ, ◌-◌, ◌*◌, Bool, true, false, not, ◌&&◌, cond, ltb, leb, eqb, Option, Some, None}
 use Rattle.payloads.specs.Request.{kind_number}
 use Rattle.peripheral_set.specs.Marks.{slots}
 use Rattle.cycle.specs.declared.seen.Sent.{Sent}
-use Rattle.cycle.specs.declared.seen.Sent.TheVariants.{Nobody, To}
 use Rattle.cycle.specs.declared.state.DpMasterState.{DpMasterState}
 use Rattle.cycle.specs.declared.state.OperatingState.{OperatingState}
 use Rattle.cycle.specs.declared.state.OperatingState.TheVariants.{Stop, Clear, Operate}
@@ -151,19 +150,19 @@ closed s = opened 0 0 s
 -- ---- what is left of the state after each call
 
 -- step 4: the place is the slot that sent, whose request is open; or the first slot
-abbrev pub after_visits : Sent → DpMasterState → DpMasterState
-after_visits Nobody s = place_is 0 false s
-after_visits (To slot k) s = opened slot (kind_number k) (place_is slot false s)
+abbrev pub after_visits : Option Sent → DpMasterState → DpMasterState
+after_visits None s = place_is 0 false s
+after_visits (Some sent) s = opened sent.slot (kind_number sent.kind) (place_is sent.slot false s)
 
 -- what each step leaves besides
-abbrev pub after_step : Step → Sent → ℕ → DpMasterState → DpMasterState
+abbrev pub after_step : Step → Option Sent → ℕ → DpMasterState → DpMasterState
 after_step Halt sent time s = s
 after_step Control sent time s = controlled_at time s
 after_step Back sent time s = place_is 0 false s
 after_step Visits sent time s = after_visits sent s
 
 -- an accepted turn records its time and closes any open request
-abbrev pub after_turn : Step → Sent → ℕ → DpMasterState → DpMasterState
+abbrev pub after_turn : Step → Option Sent → ℕ → DpMasterState → DpMasterState
 after_turn step sent time s = after_step step sent time (closed (timed time s))
 
 -- an accepted reply closes the request; the place moves to the next occupied slot, with none the cycle is completed

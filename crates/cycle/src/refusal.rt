@@ -1,12 +1,13 @@
 // Which call is refused, and with which number: the rows of each call, in the order of document 01's table.
 ghost use Rattle.std.specs.Prelude.{◌≡◌};
+ghost use Rattle.refusals.specs.Table.{outcome};
 ghost use Rattle.cycle.specs.Refusal.{turn_refusal, reply_refusal, add_refusal};
 
 use crate::state::DpMasterState;
 use fdl::parameters::Parameters;
 use fdl::telegram::Telegram;
 use peripheral_set::SLOTS;
-use refusals::{DONE, MAX_CONFIG, MAX_IMAGE, MAX_ROOM, MAX_USER};
+use refusals::{MAX_CONFIG, MAX_IMAGE, MAX_ROOM, MAX_USER, Refusal};
 
 // The lengths of the four lent pools.
 #[derive(Clone, Copy)]
@@ -44,13 +45,13 @@ pub fn turn_refusal(
     setup: usize,
     outputs: usize,
     payload: usize,
-) -> u8
-    ensures { result ≡ turn_refusal u s time setup outputs payload }
+) -> Result<(), Refusal>
+    ensures { result ≡ outcome (turn_refusal u s time setup outputs payload) }
 {
-    let n = refusals::lent(DONE, setup, u.setup_pool);
-    let n = refusals::lent(n, outputs, u.output_pool);
-    let n = refusals::buffer(n, payload);
-    refusals::turn(n, s.last_turn, time)
+    refusals::lent(setup, u.setup_pool)
+        .and(refusals::lent(outputs, u.output_pool))
+        .and(refusals::buffer(payload))
+        .and(refusals::turn(s.last_turn, time))
 }
 
 // A reply: what is lent (2), the open request, to the balance at the address `asked` (9), and the telegram (10).
@@ -63,13 +64,13 @@ pub fn reply_refusal(
     payload: usize,
     inputs: usize,
     diags: usize,
-) -> u8
-    ensures { result ≡ reply_refusal u s asked address telegram payload inputs diags }
+) -> Result<(), Refusal>
+    ensures { result ≡ outcome (reply_refusal u s asked address telegram payload inputs diags) }
 {
-    let n = refusals::lent(DONE, inputs, u.input_pool);
-    let n = refusals::lent(n, diags, u.diag_pool);
-    let n = refusals::asked(n, s.is_open(), address, asked);
-    refusals::usable(n, telegram.is_usable(payload))
+    refusals::lent(inputs, u.input_pool)
+        .and(refusals::lent(diags, u.diag_pool))
+        .and(refusals::asked(s.is_open(), address, asked))
+        .and(refusals::usable(telegram.is_usable(payload)))
 }
 
 // An add without its ranges: what is lent (2), the first empty `slot`, SLOTS for none (5), address, and whether it is another balance's (6), lengths (7).
@@ -80,19 +81,19 @@ pub fn add_refusal(
     address: u8,
     elsewhere: bool,
     l: Lengths,
-) -> u8
-    ensures { result ≡ add_refusal u lent slot address elsewhere l }
+) -> Result<(), Refusal>
+    ensures { result ≡ outcome (add_refusal u lent slot address elsewhere l) }
 {
-    let n = refusals::lent(DONE, lent.setup, u.setup_pool);
-    let n = refusals::lent(n, lent.inputs, u.input_pool);
-    let n = refusals::lent(n, lent.outputs, u.output_pool);
-    let n = refusals::lent(n, lent.diags, u.diag_pool);
-    let n = refusals::full(n, slot, SLOTS);
-    let n = refusals::address(n, address, u.address);
-    let n = refusals::shared(n, elsewhere);
-    let n = refusals::length(n, MAX_USER, l.user);
-    let n = refusals::length(n, MAX_CONFIG, l.config);
-    let n = refusals::length(n, MAX_IMAGE, l.inputs);
-    let n = refusals::length(n, MAX_IMAGE, l.outputs);
-    refusals::length(n, MAX_ROOM, l.room)
+    refusals::lent(lent.setup, u.setup_pool)
+        .and(refusals::lent(lent.inputs, u.input_pool))
+        .and(refusals::lent(lent.outputs, u.output_pool))
+        .and(refusals::lent(lent.diags, u.diag_pool))
+        .and(refusals::full(slot, SLOTS))
+        .and(refusals::address(address, u.address))
+        .and(refusals::shared(elsewhere))
+        .and(refusals::length(MAX_USER, l.user))
+        .and(refusals::length(MAX_CONFIG, l.config))
+        .and(refusals::length(MAX_IMAGE, l.inputs))
+        .and(refusals::length(MAX_IMAGE, l.outputs))
+        .and(refusals::length(MAX_ROOM, l.room))
 }

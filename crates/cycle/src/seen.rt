@@ -1,7 +1,7 @@
 // What the visits of a turn have seen so far.
 ghost use Rattle.std.specs.Prelude.{◌≡◌, ◌<◌};
-ghost use Rattle.peripheral_set.specs.Marks.{slots};
-ghost use Rattle.cycle.specs.Seen.{bit_at, nothing_seen, seen_by, next_in, index_of, sent_index};
+ghost use Rattle.peripheral_set.specs.Marks.{slots, slot_or_none};
+ghost use Rattle.cycle.specs.Seen.{bit_at, nothing_seen, seen_by, next_in, index_of, sent_index, first_index};
 
 use payloads::request::Request;
 use peripheral_set::SLOTS;
@@ -10,13 +10,13 @@ use station::visit::Visited;
 // A bit for each slot.
 pub type Mask = u32;
 
-// What the visits of a turn sent to a slot.
+// A request that a visit sent; the visits end there.
 #[derive(Clone, Copy)]
-pub enum Sent {
-    // No visit sent anything.
-    Nobody,
-    // This request, to the slot of this number, 0 to 31; the visits end there.
-    To(u8, Request),
+pub struct Sent {
+    // The slot that it went to, 0 to 31.
+    pub slot: u8,
+    // Which of the four it is.
+    pub kind: Request,
 }
 
 // The slots reported Offline, and what was sent.
@@ -24,10 +24,10 @@ pub enum Sent {
 pub struct Seen {
     // Bit s is set where the visit to slot s reported Offline.
     pub mask: Mask,
-    // Slot number of the first one reported Offline, 0 to 31; 255 is none.
-    pub first: u8,
-    // The request that was sent, and the slot that it went to, if there is one.
-    pub sent: Sent,
+    // Slot number of the first one reported Offline, 0 to 31, if there is one.
+    pub first: Option<u8>,
+    // The request that was sent, if there is one.
+    pub sent: Option<Sent>,
 }
 
 // The bit of a slot; none where there is no such slot.
@@ -41,20 +41,8 @@ pub fn bit(slot: usize) -> Mask
 pub fn index(slot: u8) -> usize
     ensures { (result ≡ index_of slot) × (result < slots) }
 {
-    let i = parts::widen8(slot);
+    let i = usize::from(slot);
     if i < SLOTS { i } else { 0 }
-}
-
-impl Sent {
-    // The slot that it was sent to, as an index; 0 for nobody.
-    pub fn index(self) -> usize
-        ensures { (result ≡ sent_index self) × (result < slots) }
-    {
-        match self {
-            Sent::Nobody => 0,
-            Sent::To(slot, _) => index(slot),
-        }
-    }
 }
 
 impl Seen {
@@ -64,8 +52,8 @@ impl Seen {
     {
         Seen {
             mask: 0,
-            first: 255,
-            sent: Sent::Nobody,
+            first: None,
+            sent: None,
         }
     }
 
@@ -73,42 +61,47 @@ impl Seen {
     pub fn seen_after(self, slot: u8, what: Visited) -> Seen
         ensures { result ≡ seen_by slot what self }
     {
-        let mask = self.mask;
-        let first = self.first;
-        let sent = self.sent;
         match what {
             Visited::Sends(kind) => Seen {
-                mask: mask,
-                first: first,
-                sent: Sent::To(slot, kind),
+                sent: Some(Sent { slot, kind }),
+                ..self
             },
-            Visited::Drops => {
-                let more = mask | bit(parts::widen8(slot));
-                if first == 255 {
-                    return Seen {
-                        mask: more,
-                        first: slot,
-                        sent: sent,
-                    };
-                }
-                Seen {
-                    mask: more,
-                    first: first,
-                    sent: sent,
-                }
-            }
+            Visited::Drops => Seen {
+                mask: self.mask | bit(usize::from(slot)),
+                first: self.first.or(Some(slot)),
+                ..self
+            },
             Visited::Skips => self,
         }
     }
 
-    // Where the visits go on: the next occupied slot after `slot`, or SLOTS once something was sent.
-    pub fn next(self, marks: [bool; SLOTS], slot: usize) -> usize
-        ensures { result ≡ next_in self.sent marks slot }
+    // Where the visits go on: the next occupied slot after `slot`; nowhere once something was sent.
+    pub fn next(self, marks: &[bool; SLOTS], slot: usize) -> Option<usize>
+        ensures { result ≡ slot_or_none (next_in self.sent marks.now slot) }
     {
-        let sent = self.sent;
-        match sent {
-            Sent::Nobody => peripheral_set::next_after(marks, slot),
-            Sent::To(_, _) => SLOTS,
+        match self.sent {
+            None => peripheral_set::next_after(marks, slot),
+            Some(_) => None,
+        }
+    }
+
+    // The slot that something was sent to, as an index; 0 where nothing was.
+    pub fn sent_index(self) -> usize
+        ensures { (result ≡ sent_index self.sent) × (result < slots) }
+    {
+        match self.sent {
+            None => 0,
+            Some(sent) => index(sent.slot),
+        }
+    }
+
+    // The first slot reported Offline, as an index; 0 where none was.
+    pub fn first_index(self) -> usize
+        ensures { (result ≡ first_index self.first) × (result < slots) }
+    {
+        match self.first {
+            None => 0,
+            Some(slot) => index(slot),
         }
     }
 }

@@ -1,12 +1,13 @@
 // The operating state, the cycle, and when the global control is due.
 ghost use Rattle.std.specs.Prelude.{◌≡◌, ◌-◌, ◌<◌};
-ghost use Rattle.cycle.specs.State.{operating_number, operating_of, fresh_state, entered, is_open, is_clear, control_due, running_of, step_of, start_of, after_turn, answered, closed_for};
+ghost use Rattle.peripheral_set.specs.Marks.{or_slots};
+ghost use Rattle.cycle.specs.State.{operating_number, operating_of, fresh_state, entered, is_open, is_clear, control_due, step_of, start_of, closed, place_is, after_turn, answered, closed_for};
 
-use crate::seen::{Seen, Sent};
+use crate::seen::Sent;
 use peripheral_set::SLOTS;
 
 // The operating state of the master, which the caller sets.
-#[derive(Clone, Copy)]
+#[derive(Clone, Copy, Debug, PartialEq, Eq)]
 pub enum OperatingState {
     // 0: no data exchange; a turn sends nothing.
     Stop,
@@ -31,7 +32,7 @@ pub enum Step {
 
 // Everything of the master that changes with each turn or reply. An open request has a kind that is not 0.
 #[repr(C)]
-#[derive(Clone, Copy)]
+#[derive(Clone, Copy, Default)]
 pub struct DpMasterState {
     // Time of the last accepted turn in microseconds, 0 before the first.
     pub last_turn: u64,
@@ -53,22 +54,24 @@ pub struct DpMasterState {
     pub operating: u8,
 }
 
-impl OperatingState {
-    // The number that stands for it in a record.
-    pub fn number(self) -> u8
-        ensures { result ≡ operating_number self }
-    {
-        match self {
+// The number that stands for it in a record.
+impl From<OperatingState> for u8 {
+    ghost from_gives = { λ o n. n ≡ operating_number o };
+
+    fn from(state: OperatingState) -> u8 {
+        match state {
             OperatingState::Stop => 0,
             OperatingState::Clear => 1,
             OperatingState::Operate => 2,
         }
     }
+}
 
-    // The state of a number; a number that stands for none counts as Stop.
-    pub fn of(n: u8) -> OperatingState
-        ensures { result ≡ operating_of n }
-    {
+// The state of a number; a number that stands for none counts as Stop.
+impl From<u8> for OperatingState {
+    ghost from_gives = { λ n o. o ≡ operating_of n };
+
+    fn from(n: u8) -> OperatingState {
         match n {
             1 => OperatingState::Clear,
             2 => OperatingState::Operate,
@@ -77,68 +80,38 @@ impl OperatingState {
     }
 }
 
-// How long ago; 0 where that lies ahead.
-fn since(time: u64, then: u64) -> u64
-    ensures { result ≡ time - then }
-{
-    if then <= time { time - then } else { 0 }
-}
-
-fn wide(x: u32) -> u64
-    ensures { (result ≡ x) × (result < 4294967296) }
-{
-    x as u64
-}
-
 impl DpMasterState {
     // A fresh unit is in Stop, its place at the first slot, nothing open.
     pub fn new() -> DpMasterState
         ensures { result ≡ fresh_state }
     {
-        DpMasterState {
-            last_turn: 0,
-            last_control: 0,
-            slot: 0,
-            completed: false,
-            open_slot: 0,
-            open_kind: 0,
-            has_turned: false,
-            controlled: false,
-            operating: 0,
-        }
+        DpMasterState::default()
     }
 
     // With this operating state set, also where it is the same one, and the global control due anew.
     pub fn enter(self, state: OperatingState) -> DpMasterState
         ensures { result ≡ entered state self }
     {
-        let mut s = self;
-        s.operating = state.number();
-        s.controlled = false;
-        s.last_control = 0;
-        s
+        DpMasterState {
+            operating: u8::from(state),
+            controlled: false,
+            last_control: 0,
+            ..self
+        }
     }
 
     // Whether a request is open. A slot number that is no slot's counts as none: DECISIONS 27
     pub fn is_open(self) -> bool
         ensures { result ≡ is_open self }
     {
-        if self.open_kind == 0 {
-            return false;
-        }
-        parts::widen8(self.open_slot) < SLOTS
+        self.open_kind != 0 && usize::from(self.open_slot) < SLOTS
     }
 
     // Whether data requests carry no outputs.
     pub fn is_clear(self) -> bool
         ensures { result ≡ is_clear (operating_of self.operating) }
     {
-        let operating = OperatingState::of(self.operating);
-        match operating {
-            OperatingState::Stop => false,
-            OperatingState::Clear => true,
-            OperatingState::Operate => false,
-        }
+        OperatingState::from(self.operating) == OperatingState::Clear
     }
 
     // Whether the global control is due.
@@ -148,36 +121,24 @@ impl DpMasterState {
         if high_prio_only {
             return false;
         }
-        if self.controlled {
-            return 50 * wide(slot_time) <= since(time, self.last_control);
-        }
-        true
+        !self.controlled || 50 * u64::from(slot_time) <= time.saturating_sub(self.last_control)
     }
 
     // What a turn at this time does; in Stop nothing, else the first of steps 2 to 4 that applies.
     pub fn step(self, time: u64, high_prio_only: bool, slot_time: u32) -> Step
         ensures { result ≡ step_of (operating_of self.operating) (control_due time high_prio_only slot_time self) self.completed }
     {
-        let operating = OperatingState::of(self.operating);
-        let due = self.control_due(time, high_prio_only, slot_time);
-        match operating {
-            OperatingState::Stop => Step::Halt,
-            OperatingState::Clear => self.running(due),
-            OperatingState::Operate => self.running(due),
+        if OperatingState::from(self.operating) == OperatingState::Stop {
+            return Step::Halt;
         }
-    }
-
-    // Steps 2 to 4.
-    fn running(self, due: bool) -> Step
-        ensures { result ≡ running_of due self.completed }
-    {
-        if due {
+        if self.control_due(time, high_prio_only, slot_time) {
             return Step::Control;
         }
         if self.completed {
-            return Step::Back;
+            Step::Back
+        } else {
+            Step::Visits
         }
-        Step::Visits
     }
 
     // The slot from which a turn visits; SLOTS where it visits none.
@@ -185,67 +146,69 @@ impl DpMasterState {
         ensures { result ≡ start_of step self }
     {
         match step {
-            Step::Halt => SLOTS,
-            Step::Control => SLOTS,
-            Step::Back => SLOTS,
-            Step::Visits => parts::widen8(self.slot),
+            Step::Visits => usize::from(self.slot),
+            _ => SLOTS,
         }
     }
 
-    // After an accepted turn. A closed request is (slot 0, kind 0): DECISIONS 26
-    pub fn after_turn(self, step: Step, sent: Sent, time: u64) -> DpMasterState
+    // With no request open. A closed request is (slot 0, kind 0): DECISIONS 26
+    fn closed(self) -> DpMasterState
+        ensures { result ≡ closed self }
+    {
+        DpMasterState {
+            open_slot: 0,
+            open_kind: 0,
+            ..self
+        }
+    }
+
+    // With this place, and the cycle completed or not.
+    fn place_is(self, slot: u8, completed: bool) -> DpMasterState
+        ensures { result ≡ place_is slot completed self }
+    {
+        DpMasterState {
+            slot,
+            completed,
+            ..self
+        }
+    }
+
+    // After an accepted turn, which closes any open request.
+    pub fn after_turn(self, step: Step, sent: Option<Sent>, time: u64) -> DpMasterState
         ensures { result ≡ after_turn step sent time self }
     {
-        let mut s = self;
-        s.last_turn = time;
-        s.has_turned = true;
-        s.open_slot = 0;
-        s.open_kind = 0;
+        let s = DpMasterState {
+            last_turn: time,
+            has_turned: true,
+            ..self.closed()
+        };
         match step {
             Step::Halt => s,
-            Step::Control => {
-                s.last_control = time;
-                s.controlled = true;
-                s
-            }
-            Step::Back => {
-                s.slot = 0;
-                s.completed = false;
-                s
-            }
-            Step::Visits => {
-                s.completed = false;
-                match sent {
-                    Sent::Nobody => {
-                        s.slot = 0;
-                        s
-                    }
-                    Sent::To(slot, kind) => {
-                        s.slot = slot;
-                        s.open_slot = slot;
-                        s.open_kind = kind.number();
-                        s
-                    }
-                }
-            }
+            Step::Control => DpMasterState {
+                last_control: time,
+                controlled: true,
+                ..s
+            },
+            Step::Back => s.place_is(0, false),
+            Step::Visits => match sent {
+                None => s.place_is(0, false),
+                Some(sent) => DpMasterState {
+                    open_slot: sent.slot,
+                    open_kind: sent.kind.number(),
+                    ..s.place_is(sent.slot, false)
+                },
+            },
         }
     }
 
-    // After an accepted reply, with the next occupied slot; SLOTS and above where there is none.
-    pub fn answered(self, next: usize) -> DpMasterState
-        ensures { result ≡ answered next self }
+    // After an accepted reply, with the next occupied slot if there is one; a number that is no slot's counts as none.
+    pub fn answered(self, next: Option<usize>) -> DpMasterState
+        ensures { result ≡ answered (or_slots next) self }
     {
-        let mut s = self;
-        s.open_slot = 0;
-        s.open_kind = 0;
-        if next < SLOTS {
-            s.slot = next as u8;
-            s.completed = false;
-            return s;
+        match next {
+            Some(slot) if slot < SLOTS => self.closed().place_is(slot as u8, false),
+            _ => self.closed().place_is(0, true),
         }
-        s.slot = 0;
-        s.completed = true;
-        s
     }
 
     // With the request to that slot closed, where it is the open one.
@@ -253,11 +216,9 @@ impl DpMasterState {
         ensures { result ≡ closed_for slot self }
     {
         if self.open_slot == slot {
-            let mut s = self;
-            s.open_slot = 0;
-            s.open_kind = 0;
-            return s;
+            self.closed()
+        } else {
+            self
         }
-        self
     }
 }

@@ -9,11 +9,11 @@ use lib.Dec.{eqb}
 use Rattle.std.specs.Prelude.{Result, Ok, Err}
 use Rattle.std.specs.Result.{result_and}
 use lib.ListN.{get_or, drop}
-use borrow.Author.Tests.{eqb-true, not-true}
+use borrow.Author.Tests.{eqb-true, eq-eqb, not-true}
 use Rattle.parts.proofs.Laws.{and_left, and_right}
 use Rattle.refusals.specs.declared.Refusal.{Refusal}
 use Rattle.refusals.specs.declared.Refusal.TheVariants.{BadParameter, BadLent, EarlyTurn, BadHandle, TableFull, BadAddress, TooLong, NoRoom, NotAsked, Unusable, BadLength}
-use Rattle.refusals.specs.Table.{Row, first_of, said, or_else, refusal_number, given, outcome}
+use Rattle.refusals.specs.Table.{Row, first_of, said, or_else, refusal_number, refusal_numbered, given, outcome}
 
 -- no row has the number 0, which is "done"
 abbrev pub numbered : List Row → Bool
@@ -74,6 +74,39 @@ refused NoRoom = refl
 refused NotAsked = refl
 refused Unusable = refl
 refused BadLength = refl
+
+-- done is the number 0
+pub done_is : (n : ℕ) → outcome n ≡ Ok tt → n ≡ 0
+unfolding given
+done_is n p = by (eqb n 0) refl p
+  where
+    by : (b : Bool) → eqb n 0 ≡ b → cond b (outcome 0) (Err (refusal_numbered n)) ≡ outcome 0 → n ≡ 0
+    by true e p = eqb-true n 0 e
+    by false e p = cc p
+
+-- the rows' numbers are the table's
+abbrev pub known : List Row → Bool
+known [] = true
+known (r ∷ rows) = eqb (refusal_number (refusal_numbered r.number)) r.number && known rows
+
+-- a refusal has the number that gave it
+pub number-told : (n : ℕ) → refusal_number (refusal_numbered n) ≡ n → {e : Refusal} → outcome n ≡ Err e → (refusal_number e ≡ n) × (n ≡ 0 → ⊥)
+unfolding given
+number-told n k {e} p = by (eqb n 0) refl p
+  where
+    by : (b : Bool) → eqb n 0 ≡ b → cond b (outcome 0) (Err (refusal_numbered n)) ≡ Err e → (refusal_number e ≡ n) × (n ≡ 0 → ⊥)
+    by true z p = cc p
+    by false z p = let q : refusal_numbered n ≡ e = cc p in (sym (ap refusal_number q) ∙ k, λ h. false≢true (sym z ∙ eq-eqb n 0 h))
+
+pub told : (rows : List Row) → known rows ≡ true → {e : Refusal} → outcome (first_of rows) ≡ Err e → (refusal_number e ≡ first_of rows) × (first_of rows ≡ 0 → ⊥)
+unfolding given
+told [] h p = cc p
+told (r ∷ rows) h {e} p = by r.applies p (told rows (and_right (eqb (refusal_number (refusal_numbered r.number)) r.number) (known rows) h))
+  where
+    by : (b : Bool) → outcome (cond b r.number (first_of rows)) ≡ Err e → (outcome (first_of rows) ≡ Err e → (refusal_number e ≡ first_of rows) × (first_of rows ≡ 0 → ⊥))
+        → (refusal_number e ≡ cond b r.number (first_of rows)) × (cond b r.number (first_of rows) ≡ 0 → ⊥)
+    by true p rest = number-told r.number (eqb-true _ r.number (and_left (eqb (refusal_number (refusal_numbered r.number)) r.number) (known rows) h)) p
+    by false p rest = rest p
 
 -- ---- the code's order: each row, `and` the next
 

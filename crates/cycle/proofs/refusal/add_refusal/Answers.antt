@@ -7,5 +7,5 @@ use Rattle.cycle.proofs.refusal.add_refusal.Goals as goal
 pub returns : goal.returns
 unfolding add_refusal
 returns c = let a = c.args in
-    (rw (c.length-n-4.ensures, c.length-n-3.ensures, c.length-n-2.ensures, c.length-n.ensures, c.shared-n.ensures, c.address-n.ensures, c.full-n.ensures, c.lent-n-4.ensures, c.lent-n-3.ensures, c.lent-n-2.ensures, c.lent-n.ensures) at c.length.ensures)
+    (rw (c.and-10.ensures, c.and-9.ensures, c.and-8.ensures, c.and-7.ensures, c.and-6.ensures, c.and-5.ensures, c.and-4.ensures, c.and-3.ensures, c.and-2.ensures, c.and.ensures, c.lent.ensures, c.lent-2.ensures, c.lent-3.ensures, c.lent-4.ensures, c.full.ensures, c.address.ensures, c.shared.ensures, c.length.ensures, c.length-2.ensures, c.length-3.ensures, c.length-4.ensures, c.length-5.ensures) at c.and-11.ensures)
     ∙ in-turn (add_rows a.u a.lent a.slot a.address a.elsewhere a.l) refl

@@ -1,4 +1,5 @@
--- `control_due` meets its contract: each test is a line of the definition.
+-- `control_due` meets its contract: each test is a part of the definition.
+use borrow.Author.Tests.{not-true, not-false}
 use Rattle.cycle.specs.State.{control_due}
 use Rattle.cycle.proofs.state.DpMasterState.control_due.Goals as goal
 
@@ -6,10 +7,10 @@ pub returns-then-high_prio_only : goal.returns-then-high_prio_only
 unfolding control_due
 returns-then-high_prio_only c = rw c.if-high_prio_only.true
 
-pub returns-then-self : goal.returns-then-self
+pub returns-then-not-self : goal.returns-then-not-self
 unfolding control_due
-returns-then-self c = rw (c.if-high_prio_only.false, c.if-self.true, c.wide.ensures.0, c.since.ensures)
+returns-then-not-self c = rw (c.if-high_prio_only.false, not-true _ c.if-not-self.true)
 
-pub returns : goal.returns
+pub returns-else-not-self : goal.returns-else-not-self
 unfolding control_due
-returns c = rw (c.if-high_prio_only.false, c.if-self.false)
+returns-else-not-self c = rw (c.if-high_prio_only.false, not-false _ c.if-not-self.false, c.from.ensures, c.saturating_sub.ensures)
