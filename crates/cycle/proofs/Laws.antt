@@ -6,15 +6,19 @@ use mathlib.Mathlib.Data.Bool.Basic.{or-eq-false-eq-eq-false-and-eq-false as nei
 use Prim.Native.Nat.{ℕ, ◌≤◌, ◌<◌}
 use lib.Dec.{ltb, eqb}
 use borrow.Author.Tests.{ltb-true, ltb-false, leb-false, eqb-true, not-true, not-false, eq-eqb, ne_eqb}
-use Rattle.parts.proofs.Laws.{and_left, and_right}
-use Rattle.refusals.proofs.Laws.{passed, passed_from}
+use Rattle.parts.proofs.Laws.{by_test, and_left, and_right}
+use Rattle.std.specs.Prelude.{Err}
+use Rattle.refusals.specs.declared.Refusal.{Refusal}
+use Rattle.refusals.specs.Table.{refusal_number, outcome}
+use Rattle.refusals.proofs.Laws.{passed, passed_from, told}
 use Rattle.fdl.specs.declared.parameters.Parameters.{Parameters}
 use Rattle.fdl.specs.declared.telegram.Telegram.{Telegram}
-use Rattle.peripheral_set.specs.Marks.{slots}
+use Rattle.peripheral_set.specs.Marks.{slots, slot_or_none, or_slots}
+use Rattle.peripheral_set.proofs.Laws.{slot_some, slot_none}
 use Rattle.cycle.specs.declared.state.DpMasterState.{DpMasterState}
 use Rattle.cycle.specs.declared.refusal.Lent.{Lent}
 use Rattle.cycle.specs.declared.refusal.Lengths.{Lengths}
-use Rattle.cycle.specs.State.{is_open, closed, closed_for}
+use Rattle.cycle.specs.State.{is_open, closed, answered, closed_for}
 use Rattle.cycle.specs.Refusal.{turn_rows, turn_refusal, reply_rows, reply_refusal, address_refusal, length_rows, length_refusal, add_rows, add_refusal}
 
 -- ---- the lengths of an add
@@ -88,6 +92,23 @@ module _ (u : Parameters) (s : DpMasterState) (asked address : ℕ) (t : Telegra
   pub reply-slot : s.open_slot < slots
   reply-slot = ltb-true _ _ (and_right (not (eqb s.open_kind 0)) (ltb s.open_slot slots) is-open)
 
+-- ---- what a refusal tells
+
+pub turn-told : (u : Parameters) (s : DpMasterState) (time setup outputs payload : ℕ) {e : Refusal} → outcome (turn_refusal u s time setup outputs payload) ≡ Err e
+    → (refusal_number e ≡ turn_refusal u s time setup outputs payload) × (turn_refusal u s time setup outputs payload ≡ 0 → ⊥)
+unfolding turn_refusal
+turn-told u s time setup outputs payload p = told (turn_rows u s time setup outputs payload) refl p
+
+pub reply-told : (u : Parameters) (s : DpMasterState) (asked address : ℕ) (t : Telegram) (payload inputs diags : ℕ) {e : Refusal} → outcome (reply_refusal u s asked address t payload inputs diags) ≡ Err e
+    → (refusal_number e ≡ reply_refusal u s asked address t payload inputs diags) × (reply_refusal u s asked address t payload inputs diags ≡ 0 → ⊥)
+unfolding reply_refusal
+reply-told u s asked address t payload inputs diags p = told (reply_rows u s asked address t payload inputs diags) refl p
+
+pub add-told : (u : Parameters) (lent : Lent) (slot address : ℕ) (elsewhere : Bool) (l : Lengths) {e : Refusal} → outcome (add_refusal u lent slot address elsewhere l) ≡ Err e
+    → (refusal_number e ≡ add_refusal u lent slot address elsewhere l) × (add_refusal u lent slot address elsewhere l ≡ 0 → ⊥)
+unfolding add_refusal
+add-told u lent slot address elsewhere l p = told (add_rows u lent slot address elsewhere l) refl p
+
 -- ---- a closed request
 
 module _ (slot : ℕ) (s : DpMasterState) where
@@ -104,3 +125,8 @@ module _ (slot : ℕ) (s : DpMasterState) where
       by_ne : (b : Bool) → b ≡ false → s ≡ cond b (closed s) s
       by_ne true q = absurd (false≢true (sym q))
       by_ne false q = refl
+
+-- ---- the next slot, as an Option
+
+pub answered_at : (n : ℕ) (s : DpMasterState) → answered (or_slots (slot_or_none n)) s ≡ answered n s
+answered_at n s = by_test (ltb n slots) (λ l. rw (slot_some n (ltb-true n slots l)) refl) (λ l. rw (slot_none n (ltb-false n slots l), l) refl)

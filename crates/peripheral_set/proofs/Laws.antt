@@ -2,7 +2,7 @@
 -- The idea: a search looks at one slot and then goes on; what it passed had the other mark, and what it found has the wanted one.
 -- Slots that are passed together are passed one after the other.
 use mathlib.Core.Path.{◌≡◌, refl, ◌∙◌}
-use mathlib.Core.Bool.{Bool, true, false, ◌||◌, cond}
+use mathlib.Core.Bool.{Bool, true, false, not, ◌||◌, cond}
 use mathlib.Mathlib.Data.Bool.Basic.{or-eq-false-eq-eq-false-and-eq-false as neither}
 use mathlib.Core.Logic.{by_cases}
 use mathlib.Core.List.{List, [], ◌∷◌}
@@ -12,8 +12,9 @@ use native.Mathlib.Omega.{arith}
 use native.Mathlib.Numerals.{add-one}
 use lib.ListN.{get_or, length, drop, drop_of_length-le}
 use lib.Seq.{drop-cons}
-use lib.Dec.{ltb}
-use borrow.Author.Tests.{lt-ltb, le-ltb}
+use lib.Dec.{ltb, leb}
+use borrow.Author.Tests.{lt-ltb, le-ltb, ltb-true, ltb-false, lt-leb, le-leb}
+use Rattle.std.specs.Option.{is_some}
 use Rattle.std.proofs.Common.{Some, None, ap, sym}
 use Rattle.std.specs.List.{position_or_len, count_by, filter, range_with_len, slice_get}
 use Rattle.std.proofs.lemmas.List.Sums.{position_or_len_is, sum_by-cons}
@@ -154,3 +155,18 @@ nth_listed marks (suc k) i (suc n) h = by_test (get_or marks i false) (λ t. rw 
 pub second : (x : ℕ) (l : List ℕ) (k d : ℕ) → (k ≡ 0 → ⊥) → get_or (x ∷ l) k d ≡ get_or l (k - 1) d
 second x l zero d h = absurd (h refl)
 second x l (suc k) d h = let e : suc k - 1 ≡ k = omega arith in rw e refl
+
+-- ---- what an optional slot tells of the number
+
+pub none_told : (i : ℕ) (b : Bool) → is_some (slot_or_none i) ≡ not b → b ≡ leb slots i
+none_told i b e =
+    by_test (ltb i slots)
+    (λ l. let h : i < slots = ltb-true i slots l in not_not b (rw (slot_some i h) at e) ∙ sym (lt-leb slots i h))
+    (λ l. let h : slots ≤ i = ltb-false i slots l in true_not b (rw (slot_none i h) at e) ∙ sym (le-leb slots i h))
+  where
+    not_not : (b : Bool) → true ≡ not b → b ≡ false
+    not_not true q = q
+    not_not false q = refl
+    true_not : (b : Bool) → false ≡ not b → b ≡ true
+    true_not true q = refl
+    true_not false q = q

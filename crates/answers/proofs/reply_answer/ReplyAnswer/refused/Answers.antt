@@ -1,5 +1,0 @@
--- `refused` meets its contract: no event, and no handle.
-use Rattle.answers.proofs.reply_answer.ReplyAnswer.refused.Goals as goal
-
-pub returns : goal.returns
-returns c = rw c.none-handle.ensures
