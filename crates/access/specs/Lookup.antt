@@ -1,9 +1,10 @@
 -- What is read of a unit by handle, the output write, and the listing.
 -- From 01, "Refusal numbers" (2, 4, 11, empty views), "The unit and its sizes" (the last diagnosis), the new form of `ManagedSlice` (the part itself, empty when refused) and "iter".
-use Rattle.std.specs.Prelude.{◌≡◌, ℕ, Bool, false, cond, List, [], ◌∷◌, ◌++◌, length, get_or, eqb, ltb}
+use Rattle.std.specs.Prelude.{◌≡◌, ℕ, Bool, false, cond, List, [], ◌∷◌, ◌++◌, length, get_or, eqb, ltb, Result}
 use Rattle.parts.specs.Parts.{put_in, View}
-use Rattle.refusals.specs.Table.{Row, lent_row, handle_row, write_row, first_of}
-use Rattle.payloads.specs.Diagnosis.{no_diagnosis}
+use Rattle.refusals.specs.declared.Refusal.{Refusal}
+use Rattle.refusals.specs.Table.{Row, lent_row, handle_row, write_row, first_of, given}
+use Rattle.payloads.specs.declared.diagnosis.DiagnosticsInfo.{DiagnosticsInfo}
 use Rattle.station.specs.Record.{is_running, last_diagnosis}
 use Rattle.peripheral.specs.declared.record.Peripheral.{Peripheral}
 use Rattle.peripheral.specs.Record.{blank, input_view, output_view, extended_view}
@@ -12,7 +13,6 @@ use Rattle.peripheral_set.specs.declared.Entry.{Entry}
 use Rattle.peripheral_set.specs.Marks.{slots, no_handle, is_occupied}
 use Rattle.master.specs.declared.unit.DpMaster.{DpMaster}
 use Rattle.master.specs.Unit.{balance_at}
-use Rattle.access.specs.declared.diagnosis.LastDiagnosis.{LastDiagnosis}
 use Rattle.access.specs.declared.images.ImageRange.{ImageRange}
 
 -- the balance of a handle; a blank record where the handle is refused (DECISIONS 23)
@@ -50,13 +50,13 @@ outputs_seen m h outputs = view_of (output_number m h outputs) (output_view (fou
 abbrev pub extended_seen : DpMaster → PeripheralHandle → List ℕ → View
 extended_seen m h diags = view_of (diag_number m h diags) (extended_view (found_in m h) diags)
 
--- a number, and where the view lies
-abbrev pub range_of : ℕ → View → ImageRange
-range_of n v = record { refusal = n; start = v.start; len = length v.bytes }
+-- where the view lies, or the number
+abbrev pub range_of : ℕ → View → Result ImageRange Refusal
+range_of n v = given n (record { start = v.start; len = length v.bytes })
 
--- before one is held, and when refused: none
-abbrev pub last_of : ℕ → Peripheral → LastDiagnosis
-last_of n p = record { refusal = n; value = cond (eqb n 0) (last_diagnosis p.station) no_diagnosis }
+-- the last diagnosis, none before one is held; or the number
+abbrev pub last_of : ℕ → Peripheral → Result DiagnosticsInfo Refusal
+last_of n p = given n (last_diagnosis p.station)
 
 -- an output write: the lent pool, the handle, and the length
 unfoldable pub write_refusal : DpMaster → PeripheralHandle → List ℕ → List ℕ → ℕ

@@ -3,52 +3,29 @@ ghost use Rattle.std.specs.Prelude.{◌≡◌};
 ghost use Rattle.parts.specs.Parts.{Itself};
 ghost use Rattle.access.specs.Lookup.{found_in, diag_number, extended_seen, last_of};
 
-use crate::images::pooled_refusal;
-use crate::lookup::find;
+use crate::images::pooled;
 use master::unit::DpMaster;
 use payloads::diagnosis::DiagnosticsInfo;
 use peripheral_set::PeripheralHandle;
+use refusals::Refusal;
 
-// The number, and the diagnosis; "none" before one is held, and when refused.
-#[derive(Clone, Copy)]
-pub struct LastDiagnosis {
-    // 0, or the number that refuses the lent pool or the handle.
-    pub refusal: u8,
-    // Flags, ident and master; `held` false, zeros and master 255 where there is none.
-    pub value: DiagnosticsInfo,
-}
-
-// The numbers of the last diagnosis that was taken since the balance was added or reset.
+// The numbers of the last diagnosis that was taken since the balance was added or reset; "none" before one is held.
 // Refuses: pooled_rows.
 // Changes: nothing.
-pub fn last_diagnostics(m: DpMaster, handle: PeripheralHandle, diags: &[u8]) -> LastDiagnosis
-    ensures { result ≡ last_of (diag_number m handle diags.now) (found_in m handle) }
+pub fn last_diagnostics(m: &DpMaster, handle: PeripheralHandle, diags: &[u8]) -> Result<DiagnosticsInfo, Refusal>
+    ensures { result ≡ last_of (diag_number m.now handle diags.now) (found_in m.now handle) }
 {
-    let refusal = pooled_refusal(m, handle, diags.len(), m.parameters.diag_pool);
-    if refusal != 0 {
-        return LastDiagnosis {
-            refusal: refusal,
-            value: DiagnosticsInfo::none(),
-        };
-    }
-    let f = find(m, handle);
-    let p = f.peripheral;
-    LastDiagnosis {
-        refusal: 0,
-        value: p.last_diagnostics(),
-    }
+    Ok(pooled(m, handle, diags.len(), m.parameters.diag_pool)?.last_diagnostics())
 }
 
 // The extended part that is stored, itself; empty before a diagnosis is held, and where `last_diagnostics` is refused.
 // Refuses: pooled_rows.
 // Changes: nothing.
-pub fn extended_diagnostics(m: DpMaster, handle: PeripheralHandle, diags: &[u8]) -> &[u8]
-    ensures { Itself (extended_seen m handle diags.now) diags.entry result }
+pub fn extended_diagnostics<'a>(m: &DpMaster, handle: PeripheralHandle, diags: &'a [u8]) -> &'a [u8]
+    ensures { Itself (extended_seen m.now handle diags.now) diags.entry result }
 {
-    if pooled_refusal(m, handle, diags.len(), m.parameters.diag_pool) != 0 {
-        return &diags[0..0];
+    match pooled(m, handle, diags.len(), m.parameters.diag_pool) {
+        Ok(p) => p.extended_diagnostics(diags),
+        Err(_) => &diags[..0],
     }
-    let f = find(m, handle);
-    let p = f.peripheral;
-    p.extended_diagnostics(diags)
 }

@@ -1,13 +1,15 @@
 -- Adding a balance: the slot, the new balance with its ranges, the unit and the four pools afterwards.
 -- From 01, "The unit and its sizes" ("Adding takes the first empty slot, ..") with the refusals of "Refusal numbers".
-use Rattle.std.specs.Prelude.{◌≡◌, ℕ, ◌+◌, Bool, true, cond, List, [], ◌∷◌, ◌++◌, length, set, eqb}
+use Rattle.std.specs.Prelude.{◌≡◌, ℕ, ◌+◌, Bool, true, cond, List, [], ◌∷◌, ◌++◌, length, set, eqb, Result, Ok, Err}
 use Rattle.parts.specs.Parts.{put_in, zeros}
-use Rattle.refusals.specs.Table.{Row, room_row, first_of}
+use Rattle.refusals.specs.declared.Refusal.{Refusal}
+use Rattle.refusals.specs.Table.{Row, room_row, first_of, number_of}
 use Rattle.fdl.specs.declared.parameters.Parameters.{Parameters}
 use Rattle.payloads.specs.declared.options.PeripheralOptions.{PeripheralOptions}
 use Rattle.peripheral.specs.declared.record.Ranges.{Ranges}
 use Rattle.peripheral.specs.declared.record.Peripheral.{Peripheral}
 use Rattle.peripheral.specs.Record.{new_balance}
+use Rattle.peripheral_set.specs.declared.PeripheralHandle.{PeripheralHandle}
 use Rattle.peripheral_set.specs.Marks.{no_handle, first_empty}
 use Rattle.addresses.specs.Addresses.{elsewhere}
 use Rattle.cycle.specs.declared.refusal.Lengths.{Lengths}
@@ -15,7 +17,6 @@ use Rattle.cycle.specs.Refusal.{add_rows}
 use Rattle.master.specs.declared.unit.DpMaster.{DpMaster}
 use Rattle.master.specs.declared.unit.Used.{Used}
 use Rattle.master.specs.declared.add.Addition.{Addition}
-use Rattle.master.specs.declared.add.Added.{Added}
 use Rattle.master.specs.Pools.{Pools, pool_lengths}
 
 -- ---- what is asked for
@@ -127,6 +128,21 @@ pools_after p user config pools =
       outputs = cleared p.ranges.outputs p.ranges.output_len pools.outputs;
       diags = cleared p.ranges.diag p.ranges.diag_room pools.diags;
     }
+
+-- what an add leaves, its number and the handle of the new balance
+pub record Added : Type 0 where
+  pub refusal : ℕ
+  pub handle : PeripheralHandle
+  pub master : DpMaster
+
+-- the handle of the new balance; a refused add has none
+abbrev pub handle_given : Result PeripheralHandle Refusal → PeripheralHandle
+handle_given (Ok h) = h
+handle_given (Err r) = no_handle
+
+-- by what it answers
+abbrev pub added_of : Result PeripheralHandle Refusal → DpMaster → Added
+added_of r m = record { refusal = number_of r; handle = handle_given r; master = m }
 
 -- what an add promises: n is its refusal, p the new balance; a refused add has no handle (DECISIONS 10)
 pub record Adds (n : ℕ) (p : Peripheral) (m : DpMaster) (user config : List ℕ) (pools out : Pools) (r : Added) : Type 0 where

@@ -12,8 +12,7 @@ use Rattle.addresses.specs.Addresses.{elsewhere}
 use Rattle.cycle.specs.Seen.{index_of}
 use Rattle.cycle.specs.State.{closed_for}
 use Rattle.master.specs.declared.unit.DpMaster.{DpMaster}
-use Rattle.master.specs.declared.unit.Done.{Done}
-use Rattle.master.specs.Unit.{state_is, balances_are, balance_at}
+use Rattle.master.specs.Unit.{Done, state_is, balances_are, balance_at}
 
 -- a reset: the handle, then the address, which may be the balance's own but no other's
 abbrev pub reset_rows : Parameters → List Bool → List Peripheral → PeripheralHandle → ℕ → List Row

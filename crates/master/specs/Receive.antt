@@ -14,8 +14,12 @@ use Rattle.cycle.specs.Refusal.{reply_refusal}
 use Rattle.master.specs.declared.unit.DpMaster.{DpMaster}
 use Rattle.answers.specs.declared.reply_answer.ReplyAnswer.{ReplyAnswer}
 use Rattle.answers.specs.ReplyAnswer.{next_of, accepted_reply, refused_reply}
-use Rattle.master.specs.declared.receive.Answered.{Answered}
 use Rattle.master.specs.Unit.{state_is, balances_are, balance_at}
+
+-- what a reply leaves, and what it answers
+pub record Answered : Type 0 where
+  pub master : DpMaster
+  pub answer : ReplyAnswer
 
 -- the balance with the open request
 abbrev pub open_balance : DpMaster → Peripheral

@@ -8,14 +8,13 @@ use Rattle.peripheral.specs.Visit.{visit_action, visited_by}
 use Rattle.peripheral_set.specs.Marks.{slots}
 use Rattle.cycle.specs.declared.seen.Seen.{Seen}
 use Rattle.cycle.specs.declared.state.Step.{Step}
-use Rattle.cycle.specs.Seen.{nothing_seen, seen_by, idle, sent_index}
+use Rattle.cycle.specs.Seen.{nothing_seen, seen_by, idle, sent_index, first_index}
 use Rattle.cycle.specs.State.{operating_of, is_clear, control_due, step_of, start_of, after_turn}
 use Rattle.cycle.specs.Refusal.{turn_refusal}
 use Rattle.master.specs.declared.unit.DpMaster.{DpMaster}
 use Rattle.answers.specs.declared.turn.TurnAnswer.{TurnAnswer}
 use Rattle.answers.specs.Turn.{payload_sent, filled_of, refused_turn, answer_of}
-use Rattle.master.specs.declared.turn.Turn.{Turn}
-use Rattle.master.specs.Unit.{state_is, balances_are, balance_at}
+use Rattle.master.specs.Unit.{state_is, balances_are}
 
 -- ---- step 4: the visits
 
@@ -60,7 +59,12 @@ turn_payload step w m setup outputs =
 -- the answer of an accepted turn
 unfoldable pub turn_answer : Step → Swept → DpMaster → List ℕ → List ℕ → TurnAnswer
 turn_answer step w m payload buf =
-    answer_of step w.seen (balance_at w.balances w.seen.first).station.address (filled_of step w.seen.sent (asked_in w) m.parameters payload buf)
+    answer_of step w.seen (get_or w.balances (first_index w.seen.first) blank).station.address (filled_of step w.seen.sent (asked_in w) m.parameters payload buf)
+
+-- what a turn leaves, and what it answers
+pub record Turn : Type 0 where
+  pub master : DpMaster
+  pub answer : TurnAnswer
 
 -- what a turn promises: n is its refusal, step what it does, w what its visits leave, payload what it sends
 pub record Turns (n : ℕ) (step : Step) (w : Swept) (payload : List ℕ) (m : DpMaster) (time : ℕ) (buf out : List ℕ) (r : Turn) : Type 0 where

@@ -1,27 +1,17 @@
 // Adding a balance.
 ghost use Rattle.std.specs.Prelude.{◌≡◌, cond, [], ◌+◌, ◌≤◌};
+ghost use Rattle.refusals.specs.Table.{outcome};
 ghost use Rattle.cycle.specs.Refusal.{length_refusal};
 ghost use Rattle.master.specs.Pools.{pools_of};
-ghost use Rattle.master.specs.Add.{ranges_at, used_after, options_held, room_refusal, setup_after, cleared, Adding};
+ghost use Rattle.master.specs.Add.{ranges_at, used_after, options_held, room_refusal, setup_after, cleared, added_of, Adding};
 
 use crate::unit::{DpMaster, Used};
 use cycle::refusal::{Lengths, Lent};
 use fdl::parameters::Parameters;
 use payloads::options::PeripheralOptions;
 use peripheral::record::{Peripheral, Ranges};
-use peripheral_set::PeripheralHandle;
-use refusals::DONE;
-
-// What an add answers: the handle of the new balance; none where the add is refused.
-#[derive(Clone, Copy)]
-pub struct Added {
-    // 0 where the balance was added, else the number that refused it.
-    pub refusal: u8,
-    // Its slot and address, by which all later calls name it; slot 255, address 255 where refused.
-    pub handle: PeripheralHandle,
-    // The unit with the new balance; the one that came in where refused.
-    pub master: DpMaster,
-}
+use peripheral_set::{PeripheralHandle, SLOTS};
+use refusals::Refusal;
 
 // What a call adds, beside its set-up data: absent data has the length 0 whatever is lent, and the two lengths in the options are not looked at. DECISIONS 14, 28
 #[derive(Clone, Copy)]
@@ -42,10 +32,7 @@ pub struct Addition {
 fn present(has: bool, data: &[u8]) -> &[u8]
     ensures { result.now ≡ cond has «data».now [] }
 {
-    if has {
-        return data;
-    }
-    &data[0..0]
+    if has { data } else { &data[..0] }
 }
 
 // Where the ranges of a new balance stand: each after the used part of its pool.
@@ -68,18 +55,18 @@ fn ranges_at(used: Used, l: Lengths) -> Ranges
 fn setup_len(p: Peripheral) -> usize
     ensures { result ≡ p.options.user_parameters + p.options.config }
 {
-    parts::widen8(p.options.user_parameters) + parts::widen8(p.options.config)
+    usize::from(p.options.user_parameters) + usize::from(p.options.config)
 }
 
 // Each of its ranges, by its pool.
-fn room_refusal(u: Parameters, p: Peripheral) -> u8
-    ensures { result ≡ room_refusal u p }
+fn room_refusal(u: Parameters, p: Peripheral) -> Result<(), Refusal>
+    ensures { result ≡ outcome (room_refusal u p) }
 {
     let r = p.ranges;
-    let n = refusals::room(DONE, r.setup, setup_len(p), u.setup_pool);
-    let n = refusals::room(n, r.inputs, parts::widen8(r.input_len), u.input_pool);
-    let n = refusals::room(n, r.outputs, parts::widen8(r.output_len), u.output_pool);
-    refusals::room(n, r.diag, parts::widen8(r.diag_room), u.diag_pool)
+    refusals::room(r.setup, setup_len(p), u.setup_pool)
+        .and(refusals::room(r.inputs, usize::from(r.input_len), u.input_pool))
+        .and(refusals::room(r.outputs, usize::from(r.output_len), u.output_pool))
+        .and(refusals::room(r.diag, usize::from(r.diag_room), u.diag_pool))
 }
 
 // Where a range ends that lies in its pool.
@@ -87,7 +74,7 @@ fn end_of(pool: u16, start: u16, len: usize) -> u16
     requires { start + len ≤ pool }
     ensures { result ≡ start + len }
 {
-    (parts::widen16(start) + len) as u16
+    (usize::from(start) + len) as u16
 }
 
 // The used parts end where its ranges do.
@@ -98,9 +85,9 @@ fn used_after(u: Parameters, p: Peripheral) -> Used
     let r = p.ranges;
     Used {
         setup: end_of(u.setup_pool, r.setup, setup_len(p)),
-        inputs: end_of(u.input_pool, r.inputs, parts::widen8(r.input_len)),
-        outputs: end_of(u.output_pool, r.outputs, parts::widen8(r.output_len)),
-        diags: end_of(u.diag_pool, r.diag, parts::widen8(r.diag_room)),
+        inputs: end_of(u.input_pool, r.inputs, usize::from(r.input_len)),
+        outputs: end_of(u.output_pool, r.outputs, usize::from(r.output_len)),
+        diags: end_of(u.diag_pool, r.diag, usize::from(r.diag_room)),
     }
 }
 
@@ -109,17 +96,18 @@ fn options_held(o: PeripheralOptions, l: Lengths) -> PeripheralOptions
     requires { length_refusal l ≡ 0 }
     ensures { result ≡ options_held o l }
 {
-    let mut held = o;
-    held.user_parameters = l.user as u8;
-    held.config = l.config as u8;
-    held
+    PeripheralOptions {
+        user_parameters: l.user as u8,
+        config: l.config as u8,
+        ..o
+    }
 }
 
 // The user parameters first, the configuration right after.
 fn store_setup(setup: &mut [u8], at: u16, user: &[u8], config: &[u8])
     ensures { setup.new ≡ setup_after at user.now config.now setup.old }
 {
-    let start = parts::widen16(at);
+    let start = usize::from(at);
     let count = user.len();
     parts::copy_at(setup, start, count, user);
     parts::copy_at(setup, start + count, config.len(), config);
@@ -129,15 +117,15 @@ fn store_setup(setup: &mut [u8], at: u16, user: &[u8], config: &[u8])
 fn clear(pool: &mut [u8], at: u16, len: u8)
     ensures { pool.new ≡ cleared at len pool.old }
 {
-    parts::clear_at(pool, parts::widen16(at), parts::widen8(len));
+    parts::clear_at(pool, usize::from(at), usize::from(len));
 }
 
 impl DpMaster {
-    // A balance is added in the first empty slot, each of its ranges behind the used part of its pool.
+    // A balance is added in the first empty slot, each of its ranges behind the used part of its pool; answers its handle, by which all later calls name it.
     // Refuses: add_rows and room_rows.
     // Changes: the slot, its mark and the used lengths; set-up data is copied in, the other three ranges are zeroed.
     pub fn add(
-        self,
+        &mut self,
         a: Addition,
         user: &[u8],
         config: &[u8],
@@ -145,15 +133,12 @@ impl DpMaster {
         inputs: &mut [u8],
         outputs: &mut [u8],
         diags: &mut [u8],
-    ) -> Added
-        ensures { Adding self a user.now config.now (pools_of setup.old inputs.old outputs.old diags.old) (pools_of setup.new inputs.new outputs.new diags.new) result }
+    ) -> Result<PeripheralHandle, Refusal>
+        ensures { Adding self.old a user.now config.now (pools_of setup.old inputs.old outputs.old diags.old) (pools_of setup.new inputs.new outputs.new diags.new) (added_of result self.new) }
     {
         let u = self.parameters;
-        let marks = self.occupied;
-        let all = self.peripherals;
-        let options = a.options;
-        let user_data = present(options.has_user_parameters, user);
-        let config_data = present(options.has_config, config);
+        let user_data = present(a.options.has_user_parameters, user);
+        let config_data = present(a.options.has_config, config);
         let l = Lengths {
             user: user_data.len(),
             config: config_data.len(),
@@ -167,43 +152,22 @@ impl DpMaster {
             outputs: outputs.len(),
             diags: diags.len(),
         };
-        let slot = peripheral_set::first_empty(marks);
-        let elsewhere = addresses::taken_elsewhere(marks, all, slot, a.address);
-        let refusal = cycle::refusal::add_refusal(u, lent, slot, a.address, elsewhere, l);
-        if refusal != DONE {
-            return Added {
-                refusal: refusal,
-                handle: PeripheralHandle::none(),
-                master: self,
-            };
-        }
-        let p = Peripheral::new(a.address, options_held(options, l), ranges_at(self.used, l));
-        let passes = room_refusal(u, p);
-        if passes != DONE {
-            return Added {
-                refusal: passes,
-                handle: PeripheralHandle::none(),
-                master: self,
-            };
-        }
-        let mut m = self;
-        m.peripherals[slot] = p;
-        m.occupied[slot] = true;
-        let after = used_after(u, p);
-        m.used = after;
+        let slot = peripheral_set::first_empty(&self.occupied).unwrap_or(SLOTS);
+        let elsewhere = addresses::taken_elsewhere(&self.occupied, &self.peripherals, slot, a.address);
+        cycle::refusal::add_refusal(u, lent, slot, a.address, elsewhere, l)?;
+        let p = Peripheral::new(a.address, options_held(a.options, l), ranges_at(self.used, l));
+        room_refusal(u, p)?;
+        self.peripherals[slot] = p;
+        self.occupied[slot] = true;
+        self.used = used_after(u, p);
         let r = p.ranges;
         store_setup(setup, r.setup, user_data, config_data);
         clear(inputs, r.inputs, r.input_len);
         clear(outputs, r.outputs, r.output_len);
         clear(diags, r.diag, r.diag_room);
-        let handle = PeripheralHandle {
+        Ok(PeripheralHandle {
             slot: slot as u8,
             address: a.address,
-        };
-        Added {
-            refusal: DONE,
-            handle: handle,
-            master: m,
-        }
+        })
     }
 }

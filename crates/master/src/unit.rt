@@ -1,12 +1,13 @@
 // The record of the master, its creation, and its operating state.
 ghost use Rattle.std.specs.Prelude.{◌≡◌};
 ghost use Rattle.cycle.specs.State.{operating_of, entered};
-ghost use Rattle.master.specs.Unit.{empty_unit, created_of, state_is};
+ghost use Rattle.master.specs.Unit.{empty_unit, created_of, creation, state_is};
 
 use cycle::state::{DpMasterState, OperatingState};
 use fdl::parameters::Parameters;
 use peripheral::record::Peripheral;
 use peripheral_set::SLOTS;
+use refusals::Refusal;
 
 // The used part of each pool.
 #[repr(C)]
@@ -38,35 +39,30 @@ pub struct DpMaster {
     pub peripherals: [Peripheral; SLOTS],
 }
 
-// What a call that answers a number leaves.
+// What a creation leaves, and what it answers.
 #[derive(Clone, Copy)]
-pub struct Done {
-    // 0 where the call was done, else the number that refused it.
-    pub refusal: u8,
-    // The unit after the call: where that is refused the one that came in, of a creation an empty one.
+pub struct Created {
+    // The new unit; where the creation is refused an empty one whose parameters are all at their lowest, as document 01 asks.
     pub master: DpMaster,
+    // Done, or refused as 1.
+    pub outcome: Result<(), Refusal>,
 }
 
 // A unit with no balance, and parameters that are in their ranges.
 fn empty_unit(parameters: Parameters) -> DpMaster
     ensures { result ≡ empty_unit parameters }
 {
-    let state = DpMasterState::new();
-    let used = Used {
-        setup: 0,
-        inputs: 0,
-        outputs: 0,
-        diags: 0,
-    };
-    let blank = Peripheral::blank();
-    let occupied = [false; SLOTS];
-    let peripherals = [blank; SLOTS];
     DpMaster {
-        state: state,
-        parameters: parameters,
-        used: used,
-        occupied: occupied,
-        peripherals: peripherals,
+        state: DpMasterState::new(),
+        parameters,
+        used: Used {
+            setup: 0,
+            inputs: 0,
+            outputs: 0,
+            diags: 0,
+        },
+        occupied: [false; SLOTS],
+        peripherals: [Peripheral::blank(); SLOTS],
     }
 }
 
@@ -74,66 +70,62 @@ impl DpMaster {
     // A new unit; where a parameter is outside its range, an empty one whose parameters are all at their lowest.
     // Refuses: creation_rows.
     // Changes: nothing; the unit is new, and no pool is lent.
-    pub fn new(parameters: Parameters) -> Done
-        ensures { result ≡ created_of parameters }
+    pub fn new(parameters: Parameters) -> Created
+        ensures { result ≡ creation (created_of parameters) }
     {
-        let refusal = parameters.refusal();
-        if refusal == 0 {
-            return Done {
-                refusal: refusal,
-                master: empty_unit(parameters.in_force()),
-            };
-        }
-        Done {
-            refusal: refusal,
-            master: empty_unit(Parameters::lowest()),
+        let outcome = parameters.refusal();
+        let held = match outcome {
+            Ok(()) => parameters.in_force(),
+            Err(_) => Parameters::lowest(),
+        };
+        Created {
+            master: empty_unit(held),
+            outcome,
         }
     }
 
     // Stop, Clear or Operate, as it was last set; Stop in a fresh unit.
     // Refuses: nothing.
     // Changes: nothing.
-    pub fn operating_state(self) -> OperatingState
-        ensures { result ≡ operating_of self.state.operating }
+    pub fn operating_state(&self) -> OperatingState
+        ensures { result ≡ operating_of self.now.state.operating }
     {
-        OperatingState::of(self.state.operating)
+        OperatingState::from(self.state.operating)
     }
 
     // The operating state is set; the same one counts too. Outside Stop the global control is due from then on.
     // Refuses: nothing.
     // Changes: operating state and global control in the record; the place and an open request stay.
-    pub fn enter_state(self, state: OperatingState) -> DpMaster
-        ensures { result ≡ state_is (entered state self.state) self }
+    pub fn enter_state(&mut self, state: OperatingState)
+        ensures { self.new ≡ state_is (entered state self.old.state) self.old }
     {
-        let mut m = self;
-        m.state = self.state.enter(state);
-        m
+        self.state = self.state.enter(state);
     }
 
     // As `enter_state` with Stop: turns send nothing.
     // Refuses: nothing.
     // Changes: as `enter_state`.
-    pub fn enter_stop(self) -> DpMaster
-        ensures { result ≡ state_is (entered OperatingState.Stop self.state) self }
+    pub fn enter_stop(&mut self)
+        ensures { self.new ≡ state_is (entered OperatingState.Stop self.old.state) self.old }
     {
-        self.enter_state(OperatingState::Stop)
+        self.enter_state(OperatingState::Stop);
     }
 
     // As `enter_state` with Clear: data is exchanged, and every balance gets zeros, or nothing where it is marked fail-safe.
     // Refuses: nothing.
     // Changes: as `enter_state`.
-    pub fn enter_clear(self) -> DpMaster
-        ensures { result ≡ state_is (entered OperatingState.Clear self.state) self }
+    pub fn enter_clear(&mut self)
+        ensures { self.new ≡ state_is (entered OperatingState.Clear self.old.state) self.old }
     {
-        self.enter_state(OperatingState::Clear)
+        self.enter_state(OperatingState::Clear);
     }
 
     // As `enter_state` with Operate: regular operation, outputs go out as they stand in their pool.
     // Refuses: nothing.
     // Changes: as `enter_state`.
-    pub fn enter_operate(self) -> DpMaster
-        ensures { result ≡ state_is (entered OperatingState.Operate self.state) self }
+    pub fn enter_operate(&mut self)
+        ensures { self.new ≡ state_is (entered OperatingState.Operate self.old.state) self.old }
     {
-        self.enter_state(OperatingState::Operate)
+        self.enter_state(OperatingState::Operate);
     }
 }

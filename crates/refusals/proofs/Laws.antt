@@ -84,6 +84,32 @@ done_is n p = by (eqb n 0) refl p
     by true e p = eqb-true n 0 e
     by false e p = cc p
 
+-- a value that is given
+pub given_here : {A : Type 0} (n : ℕ) (v : A) → n ≡ 0 → given n v ≡ Ok v
+unfolding given
+given_here n v z = rw z refl
+
+pub given_ok : {A : Type 0} (n : ℕ) (v x : A) → given n v ≡ Ok x → (n ≡ 0) × (v ≡ x)
+unfolding given
+given_ok n v x p = by (eqb n 0) refl p
+  where
+    by : (b : Bool) → eqb n 0 ≡ b → cond b (Ok v) (Err (refusal_numbered n)) ≡ Ok x → (n ≡ 0) × (v ≡ x)
+    by true e p = (eqb-true n 0 e, cc p)
+    by false e p = cc p
+
+-- a refusal is the same whatever would be given
+pub given_err : {A B : Type 0} (n : ℕ) (v : A) (w : B) {e : Refusal} → given n v ≡ Err e → given n w ≡ Err e
+unfolding given
+given_err n v w {e} p = by (eqb n 0) p
+  where
+    by : (b : Bool) → cond b (Ok v) (Err (refusal_numbered n)) ≡ Err e → cond b (Ok w) (Err (refusal_numbered n)) ≡ Err e
+    by true p = cc p
+    by false p = cc p
+
+pub given-not : {A : Type 0} (n : ℕ) (v : A) {e : Refusal} → given n v ≡ Err e → n ≡ 0 → ⊥
+unfolding given
+given-not n v {e} p z = cc (rw z at p)
+
 -- the rows' numbers are the table's
 abbrev pub known : List Row → Bool
 known [] = true
