@@ -4,15 +4,15 @@ use mathlib.Core.Path.{◌≡◌, refl, sym, ap, ◌∙◌, subst}
 use mathlib.Core.Logic.{◌⊎◌, inl, inr, ⊎_elim}
 use mathlib.Core.Bool.{Bool, true, false, ◌&&◌, false≢true, cond}
 use mathlib.Core.List.{List, [], ◌++◌, append_assoc, append-nil}
-use Prim.Native.Nat.{ℕ, suc, ◌+◌, ◌-◌, ◌≤◌, ◌<◌}
+use Prim.Native.Nat.{ℕ, ◌+◌, ◌-◌, ◌≤◌, ◌<◌}
 use native.Mathlib.Nat.{add_assoc}
-use native.Mathlib.Numerals.{add-one}
 use native.Mathlib.Omega.{arith}
-use lib.ListN.{length, take, drop, get_or, set, length-append, length-take, length-drop, length-set, take-append-drop, drop_of_length-le}
-use lib.Seq.{length-take-le, take-append-le, drop-append-le, take-append_seam, drop_at, take_at, drop-drop, sets, sets-eq, paste, paste-suc, take_all, take-length, take-add}
+use lib.ListN.{length, take, drop, length-append, length-take, length-drop, take-append-drop, drop_of_length-le}
+use lib.Seq.{length-take-le, take-append-le, drop-append-le, take-append_seam, drop_at, take_at, drop-drop, sets, sets-eq, take_all, take-add}
 use lib.Dec.{leb}
 use borrow.Author.Tests.{le-leb, lt-leb, leb-true, leb-false}
 use denote.Ref.{Bor}
+use borrow.Rule.Slice.PartMut.{put_mid}
 use Rattle.parts.specs.Parts.{inside, part, View, Itself, SamePart, splice, room_for, put_in, Put}
 
 -- ---- a test that is known, and one that is not
@@ -73,30 +73,6 @@ splice-behind a at new old h k =
 splice_beside : (a n at : ℕ) (new old : List ℕ) → (a + n ≤ at) ⊎ (at + length new ≤ a) → at ≤ length old → take n (drop a (splice at new old)) ≡ take n (drop a old)
 splice_beside a n at new old d k =
     ⊎_elim (λ h. splice-before a n at new old h k) (λ h. ap (take n) (splice-behind a at new old h k)) d
-
--- ---- a splice that a loop makes, one element a turn: v is what new has at i
-
-paste_splice : (at : ℕ) (new old : List ℕ) (n : ℕ) → n ≤ length new → paste old at new n ≡ splice at (take n new) old
-unfolding splice
-paste_splice at new old n h =
-    append_assoc (take at old) (take n new) (drop (at + n) old)
-    ∙ ap (λ (k : ℕ). take at old ++ (take n new ++ drop (at + k) old)) (sym (length-take-le n new h))
-
-splice_none : (at : ℕ) (new old : List ℕ) → splice at (take 0 new) old ≡ old
-unfolding splice
-splice_none at new old = let e : at + 0 ≡ at = omega arith in rw e (take-append-drop at old)
-
-splice_more : (at : ℕ) (new old : List ℕ) (i v : ℕ) → get_or new i 0 ≡ v → at + i < length old → i < length new
-    → set (splice at (take i new) old) (at + i) v ≡ splice at (take (i + 1) new) old
-splice_more at new old i v e ho hn =
-    ap (λ (l : List ℕ). set l (at + i) v) (sym (paste_splice at new old i (omega arith)))
-    ∙ ap (set (paste old at new i) (at + i)) (sym e)
-    ∙ paste-suc old at new i 0 ho hn
-    ∙ paste_splice at new old (suc i) hn
-    ∙ ap (λ (k : ℕ). splice at (take k new) old) (sym (add-one i))
-
-splice_done : (at : ℕ) (new old : List ℕ) (i : ℕ) → i ≡ length new → splice at (take i new) old ≡ splice at new old
-splice_done at new old i e = ap (λ (k : ℕ). splice at (take k new) old) e ∙ ap (λ (l : List ℕ). splice at l old) (take-length new)
 
 -- ---- `inside`
 
@@ -191,6 +167,11 @@ module _ (at room : ℕ) (new old : List ℕ) where
   pub stored : (out : List ℕ) → length new ≤ room → inside at room old ≡ true → out ≡ splice at new old → Put at room new old out true
   stored out a b q = let e = room_yes at room new old a b in record { answer = sym e; bytes = q ∙ sym (put_done e) }
 
+  -- what the library leaves that wrote new over the part of k elements from at on
+  pub written : (k : ℕ) (out : List ℕ) → k ≡ length new → out ≡ new → length new ≤ room → inside at room old ≡ true → Put at room new old (put_mid at k old out) true
+  unfolding splice
+  written k out n q a b = stored (put_mid at k old out) a b (rw (n, q) (ap (λ (x : List ℕ). take at old ++ (new ++ x)) (drop-drop (length new) at old)))
+
   pub length-put : length (put_in at room new old) ≡ length old
   length-put =
       by_test (room_for at room new old)
@@ -220,34 +201,6 @@ module _ (at room : ℕ) (new old : List ℕ) where
       (ap (λ (x : List ℕ). take n (drop a x)) (put_done e)
       ∙ splice_beside a n at new old (⊎_elim (λ h. inl h) (λ h. inr (omega (arith, room_new at room new old e))) d) (omega (arith, room_old at room new old e))))
       (λ e. ap (part a n) (put_kept e))
-
--- ---- a loop that puts new into the range, one element a turn: what holds when i of them stand
-
-pub record Storing (at room : ℕ) (new old out : List ℕ) (i : ℕ) : Type 0 where
-  pub passed : i ≤ length new
-  pub short : length new ≤ room
-  pub range : at + room ≤ length old
-  pub size : length out ≡ length old
-  pub bytes : out ≡ splice at (take i new) old
-
-module _ (at room : ℕ) (new old : List ℕ) where
-  pub storing_begins : length new ≤ room → at + room ≤ length old → Storing at room new old old 0
-  storing_begins a b = record { passed = omega arith; short = a; range = b; size = refl; bytes = sym (splice_none at new old) }
-
-  pub storing_goes_on : (out : List ℕ) (i v : ℕ) → Storing at room new old out i → i < length new → get_or new i 0 ≡ v
-      → Storing at room new old (set out (at + i) v) (i + 1)
-  storing_goes_on out i v s h e =
-      record {
-        passed = omega arith;
-        short = s.short;
-        range = s.range;
-        size = simp length-set s.size;
-        bytes = ap (λ (l : List ℕ). set l (at + i) v) s.bytes ∙ splice_more at new old i v e (omega arith) h;
-      }
-
-  pub storing_ends : (out : List ℕ) (i : ℕ) → Storing at room new old out i → length new ≤ i → Put at room new old out true
-  storing_ends out i s h =
-      stored at room new old out s.short (inside_yes at room old s.range) (s.bytes ∙ splice_done at new old i (omega arith))
 
 -- ---- what a callee put into a lent tail `&mut old[a..]`, said of the whole; left is that tail when it comes back
 

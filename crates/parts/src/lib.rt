@@ -24,53 +24,36 @@ pub fn widen8(len: u8) -> usize
 pub fn inside(at: usize, len: usize, total: usize) -> bool
     ensures { result ≡ leb (at + len) total }
 {
-    if total < len {
-        return false;
-    }
-    if total - len < at {
-        return false;
-    }
-    true
+    len <= total && at <= total - len
 }
 
 // The byte at an index; 0 where there is none.
 pub fn byte_at(src: &[u8], i: usize) -> u8
     ensures { result ≡ get_or src.now i 0 }
 {
-    if i < src.len() { src[i] } else { 0 }
+    src.get(i).copied().unwrap_or(0)
 }
 
 // `src` is copied to the start of the range of `room` bytes from `at` where it fits; answers whether it did.
 pub fn copy_at(dst: &mut [u8], at: usize, room: usize, src: &[u8]) -> bool
     ensures { Put at room src.now dst.old dst.new result }
 {
-    if room < src.len() {
+    if room < src.len() || !inside(at, room, dst.len()) {
         return false;
     }
-    if inside(at, room, dst.len()) {
-        let mut i = 0;
-        while i < src.len() {
-            dst[at + i] = src[i];
-            i += 1;
-        }
-        return true;
-    }
-    false
+    dst[at..at + src.len()].copy_from_slice(src);
+    true
 }
 
 // The range of `len` bytes from `at` is cleared to zeros where it lies in `dst`; answers whether it did.
 pub fn clear_at(dst: &mut [u8], at: usize, len: usize) -> bool
     ensures { Put at len (zeros len) dst.old dst.new result }
 {
-    if inside(at, len, dst.len()) {
-        let mut i = 0;
-        while i < len {
-            dst[at + i] = 0;
-            i += 1;
-        }
-        return true;
+    if !inside(at, len, dst.len()) {
+        return false;
     }
-    false
+    dst[at..at + len].fill(0);
+    true
 }
 
 // The range of `len` bytes from `at`, itself and no copy of it; empty where it does not lie in `src`.
@@ -78,10 +61,10 @@ pub fn part(src: &[u8], at: usize, len: usize) -> &[u8]
     ensures { Itself (view_at at len src.now) src.entry result }
 {
     if inside(at, len, src.len()) {
-        let end = at + len;
-        return &src[at..end];
+        &src[at..at + len]
+    } else {
+        &src[..0]
     }
-    &src[0..0]
 }
 
 // The same range as that of `part`, for the caller to write.
@@ -89,8 +72,8 @@ pub fn part_mut(src: &mut [u8], at: usize, len: usize) -> &mut [u8]
     ensures { Itself (view_at at len src.old) (as_bor src.entry) (as_bor result) }
 {
     if inside(at, len, src.len()) {
-        let end = at + len;
-        return &mut src[at..end];
+        &mut src[at..at + len]
+    } else {
+        &mut src[..0]
     }
-    &mut src[0..0]
 }
