@@ -57,6 +57,7 @@ pub fn clear_at(dst: &mut [u8], at: usize, len: usize) -> bool
 }
 
 // The range of `len` bytes from `at`, itself and no copy of it; empty where it does not lie in `src`.
+#[tactic(auto, unfolding(crate::specs::Parts::part, crate::specs::Parts::inside))]
 pub fn part(src: &[u8], at: usize, len: usize) -> &[u8]
     ensures { Itself (view_at at len src.now) src.entry result }
 {
@@ -68,6 +69,7 @@ pub fn part(src: &[u8], at: usize, len: usize) -> &[u8]
 }
 
 // The same range as that of `part`, for the caller to write.
+#[tactic(auto, unfolding(crate::specs::Parts::part, crate::specs::Parts::inside))]
 pub fn part_mut(src: &mut [u8], at: usize, len: usize) -> &mut [u8]
     ensures { Itself (view_at at len src.old) (as_bor src.entry) (as_bor result) }
 {
