@@ -9,9 +9,16 @@ use mathlib.Core.List.{List, [], ◌∷◌}
 use Prim.Native.Nat.{ℕ, zero, suc, ◌+◌, ◌-◌, ◌≤◌, ◌<◌}
 use native.Mathlib.Decide.{dec_le}
 use native.Mathlib.Omega.{arith}
-use lib.ListN.{get_or}
+use native.Mathlib.Numerals.{add-one}
+use lib.ListN.{get_or, length, drop, drop_of_length-le}
+use lib.Seq.{drop-cons}
+use lib.Dec.{ltb}
+use borrow.Author.Tests.{lt-ltb, le-ltb}
+use Rattle.std.proofs.Common.{Some, None, ap, sym}
+use Rattle.std.specs.List.{position_or_len, count_by, filter, range_with_len, slice_get}
+use Rattle.std.proofs.lemmas.List.Sums.{position_or_len_is, sum_by-cons}
 use Rattle.parts.proofs.Laws.{by_test}
-use Rattle.peripheral_set.specs.Marks.{same_mark, search_from, listed_from}
+use Rattle.peripheral_set.specs.Marks.{slots, slot_or_none, same_mark, search_from, listed_from}
 
 module _ (none : ℕ) (want : Bool) (n : ℕ) (marks : List Bool) (i : ℕ) where
   one_left : i < n → n - i ≡ suc (n - (i + 1))
@@ -93,6 +100,55 @@ module _ (none : ℕ) (want : Bool) (marks : List Bool) where
   search_bound (suc k) i h =
       by_test (same_mark want (get_or marks i false)) (λ e. rw e (omega arith))
       (λ e. rw e (search_bound k (i + 1) (omega arith)))
+
+-- ---- a slot's number, or none
+
+pub slot_some : (i : ℕ) → i < slots → slot_or_none i ≡ Some i
+slot_some i h = rw (lt-ltb i slots h) refl
+
+pub slot_none : (i : ℕ) → slots ≤ i → slot_or_none i ≡ None
+slot_none i h = rw (le-ltb i slots h) refl
+
+-- what the answer Some says of the number, and what None says
+pub some_slot : (i s : ℕ) → slot_or_none i ≡ Some s → (i ≡ s) × (s < slots)
+some_slot i s e = by_cases (dec_le slots i) (λ h. absurd (let n = slot_none i h in cc)) (λ h. let l : i < slots = omega (arith, h) in let y = slot_some i l in let q : i ≡ s = cc in (q, omega arith))
+
+pub none_slot : (i : ℕ) → slot_or_none i ≡ None → slots ≤ i
+none_slot i e = by_cases (dec_le slots i) (λ h. h) (λ h. let y = slot_some i (omega (arith, h)) in cc)
+
+-- the first mark of the library's search in a list is that of the search among the slots
+pub first_mark : (want : Bool) (marks : List Bool) → length marks ≡ slots
+    → cond (ltb (position_or_len (same_mark want) marks) (length marks)) (Some (position_or_len (same_mark want) marks)) None ≡ slot_or_none (search_from slots want slots marks 0)
+first_mark want marks e =
+    let at : ℕ = search_from slots want slots marks 0 in
+    let q : position_or_len (same_mark want) marks ≡ at =
+    position_or_len_is (same_mark want) marks at false (omega (arith, search_bound slots want marks slots 0 (omega arith)))
+    (λ k h. search_first slots want marks slots 0 k (omega arith) (omega (arith, search_bound slots want marks slots 0 (omega arith))) h)
+    (λ h. search_found slots want marks slots 0 (omega arith)) in
+    rw (q, e) refl
+
+-- ---- the listing
+
+pub length_listed : (marks : List Bool) (k i : ℕ) → i + k ≡ length marks → length (listed_from k marks i) ≡ count_by (λ m. m) (drop i marks)
+unfolding listed_from
+length_listed marks zero i e = let none = drop_of_length-le marks {i = i} (omega arith) in rw none refl
+length_listed marks (suc k) i e =
+    let next : drop i marks ≡ get_or marks i false ∷ drop (i + 1) marks = rw add-one (drop-cons marks i false (omega arith)) in
+    let rest = length_listed marks k (i + 1) (omega arith) in
+    let more = sum_by-cons (λ m. cond m 1 0) (get_or marks i false) (drop (i + 1) marks) in
+    rw (next, more) (by_test (get_or marks i false) (λ t. rw t (omega arith)) (λ t. rw t (omega arith)))
+
+-- the listing is what the marks leave of the slots
+pub listed_filter : (marks : List Bool) (k i : ℕ) → filter (λ s. get_or marks s false) (range_with_len i k) ≡ listed_from k marks i
+unfolding listed_from
+listed_filter marks zero i = refl
+listed_filter marks (suc k) i = by_test (get_or marks i false) (λ t. rw t (ap (λ (l : List ℕ). i ∷ l) (listed_filter marks k (i + 1)))) (λ t. rw t (listed_filter marks k (i + 1)))
+
+pub nth_listed : (marks : List Bool) (k i n : ℕ) → i + k ≤ slots → slice_get (listed_from k marks i) n ≡ slot_or_none (get_or (listed_from k marks i) n slots)
+unfolding listed_from
+nth_listed marks zero i n h = refl
+nth_listed marks (suc k) i zero h = by_test (get_or marks i false) (λ t. rw t (sym (slot_some i (omega arith)))) (λ t. rw t (nth_listed marks k (i + 1) zero (omega arith)))
+nth_listed marks (suc k) i (suc n) h = by_test (get_or marks i false) (λ t. rw t (nth_listed marks k (i + 1) n (omega arith))) (λ t. rw t (nth_listed marks k (i + 1) (suc n) (omega arith)))
 
 -- an element behind the first
 pub second : (x : ℕ) (l : List ℕ) (k d : ℕ) → (k ≡ 0 → ⊥) → get_or (x ∷ l) k d ≡ get_or l (k - 1) d

@@ -1,12 +1,16 @@
 -- Which slots are occupied: the first empty one, the next occupied one, the listing, and when a handle is refused.
 -- From 01, "The unit and its sizes" (adding, handles), "One turn" (occupied slots upward), "Refusal numbers", No. 4, and "iter".
-use Rattle.std.specs.Prelude.{ℕ, zero, suc, ◌+◌, ◌-◌, Bool, true, false, not, ◌&&◌, cond, List, [], ◌∷◌, get_or, ltb}
+use Rattle.std.specs.Prelude.{ℕ, zero, suc, ◌+◌, ◌-◌, Bool, true, false, not, ◌&&◌, cond, List, [], ◌∷◌, get_or, ltb, Option, Some, None}
 use Rattle.refusals.specs.Table.{handle_row, first_of}
 use Rattle.peripheral_set.specs.declared.PeripheralHandle.{PeripheralHandle}
 
 -- the number of slots
 abbrev pub slots : ℕ
 slots = 32
+
+-- a slot's number; none where it is no slot's
+abbrev pub slot_or_none : ℕ → Option ℕ
+slot_or_none i = cond (ltb i slots) (Some i) None
 
 -- no slot and no address: what stands for a handle where there is none (DECISIONS 10)
 abbrev pub no_handle : PeripheralHandle

@@ -2,15 +2,15 @@
 // No code of the unit above looks a mark up itself, so that another way to find a slot changes nothing there.
 #![tactic(auto)]
 
-ghost use Rattle.std.specs.Prelude.{◌≡◌, true, false, length, get_or, ◌-◌};
-ghost use Rattle.peripheral_set.specs.Marks.{slots, same_mark, search_from, no_handle, first_empty, at_or_after, next_after, is_occupied, listed, handle_refusal};
+ghost use Rattle.std.specs.Prelude.{◌≡◌, length, get_or};
+ghost use Rattle.peripheral_set.specs.Marks.{slots, slot_or_none, no_handle, first_empty, at_or_after, next_after, is_occupied, listed, handle_refusal};
 
 // The number of slots. The definitions say it again, as `slots`.
 pub const SLOTS: usize = 32;
 
 // A slot with the address at issue.
 #[repr(C)]
-#[derive(Clone, Copy)]
+#[derive(Clone, Copy, PartialEq, Eq)]
 pub struct PeripheralHandle {
     // Slot number, 0 to 31; 255 stands for no balance.
     pub slot: u8,
@@ -20,7 +20,7 @@ pub struct PeripheralHandle {
 
 // One row of the listing.
 #[repr(C)]
-#[derive(Clone, Copy)]
+#[derive(Clone, Copy, PartialEq, Eq)]
 pub struct Entry {
     // Slot number, 0 to 31, or 255 where there is no such entry; rising from row to row.
     pub slot: u8,
@@ -30,45 +30,24 @@ pub struct Entry {
     pub running: bool,
 }
 
-// Whether a mark is the wanted one.
-fn same(want: bool, mark: bool) -> bool
-    ensures { result ≡ same_mark want mark }
+// The first empty slot, if there is one.
+pub fn first_empty(marks: &[bool; SLOTS]) -> Option<usize>
+    ensures { result ≡ slot_or_none (first_empty marks.now) }
 {
-    if want { mark } else { !mark }
+    marks.iter().position(|&mark| !mark)
 }
 
-// The first slot from `from` on whose mark is `want`; SLOTS where there is none.
-fn search(marks: [bool; SLOTS], want: bool, from: usize) -> usize
-    ensures { result ≡ search_from slots want (slots - from) marks from }
-{
-    let mut i = from;
-    while i < SLOTS {
-        if same(want, marks[i]) {
-            return i;
-        }
-        i += 1;
-    }
-    SLOTS
-}
-
-// The first empty slot; SLOTS where all are occupied.
-pub fn first_empty(marks: [bool; SLOTS]) -> usize
-    ensures { result ≡ first_empty marks }
-{
-    search(marks, false, 0)
-}
-
-// The first occupied slot from `place` on; SLOTS where there is none.
+// The first occupied slot from `place` on, if there is one.
 // The place itself is looked at first, since a turn and a reply mostly find it occupied. Then eight empty slots are passed at a time:
-// the compiler reads eight marks as one word. A helper that takes the marks would copy them.
-pub fn at_or_after(marks: [bool; SLOTS], place: usize) -> usize
-    ensures { result ≡ at_or_after marks place }
+// the compiler reads eight marks as one word.
+pub fn at_or_after(marks: &[bool; SLOTS], place: usize) -> Option<usize>
+    ensures { result ≡ slot_or_none (at_or_after marks.now place) }
 {
     if SLOTS <= place {
-        return SLOTS;
+        return None;
     }
     if marks[place] {
-        return place;
+        return Some(place);
     }
     let mut i = place + 1;
     while i < SLOTS - 7 {
@@ -85,66 +64,40 @@ pub fn at_or_after(marks: [bool; SLOTS], place: usize) -> usize
         }
         i += 8;
     }
-    while i < SLOTS {
-        if marks[i] {
-            return i;
+    for slot in i..SLOTS {
+        if marks[slot] {
+            return Some(slot);
         }
-        i += 1;
     }
-    SLOTS
+    None
 }
 
-// The first occupied slot after `place`; SLOTS where there is none.
-pub fn next_after(marks: [bool; SLOTS], place: usize) -> usize
-    ensures { result ≡ next_after marks place }
+// The first occupied slot after `place`, if there is one.
+pub fn next_after(marks: &[bool; SLOTS], place: usize) -> Option<usize>
+    ensures { result ≡ slot_or_none (next_after marks.now place) }
 {
-    if SLOTS <= place {
-        return SLOTS;
-    }
-    at_or_after(marks, place + 1)
+    at_or_after(marks, place.checked_add(1)?)
 }
 
 // Whether there is such a slot, and it is occupied.
-pub fn is_occupied(marks: [bool; SLOTS], slot: usize) -> bool
-    ensures { result ≡ is_occupied marks slot }
+pub fn is_occupied(marks: &[bool; SLOTS], slot: usize) -> bool
+    ensures { result ≡ is_occupied marks.now slot }
 {
-    if slot < SLOTS {
-        return marks[slot];
-    }
-    false
+    slot < SLOTS && marks[slot]
 }
 
 // How many slots are occupied.
-pub fn count(marks: [bool; SLOTS]) -> usize
-    ensures { result ≡ length (listed marks) }
+pub fn count(marks: &[bool; SLOTS]) -> usize
+    ensures { result ≡ length (listed marks.now) }
 {
-    let mut n = 0;
-    let mut i = 0;
-    while i < SLOTS {
-        if marks[i] {
-            n += 1;
-        }
-        i += 1;
-    }
-    n
+    marks.iter().filter(|&&mark| mark).count()
 }
 
-// The n-th occupied slot, counted from 0; SLOTS where there are not so many.
-pub fn nth(marks: [bool; SLOTS], n: usize) -> usize
-    ensures { result ≡ get_or (listed marks) n slots }
+// The n-th occupied slot, counted from 0, if there are so many.
+pub fn nth(marks: &[bool; SLOTS], n: usize) -> Option<usize>
+    ensures { result ≡ slot_or_none (get_or (listed marks.now) n slots) }
 {
-    let mut left = n;
-    let mut i = 0;
-    while i < SLOTS {
-        if marks[i] {
-            if left == 0 {
-                return i;
-            }
-            left -= 1;
-        }
-        i += 1;
-    }
-    SLOTS
+    (0..SLOTS).filter(|&slot| marks[slot]).nth(n)
 }
 
 impl PeripheralHandle {
@@ -159,9 +112,9 @@ impl PeripheralHandle {
     }
 
     // Its row of the table: the slot is empty, or there is none.
-    pub fn refusal(self, marks: [bool; SLOTS]) -> u8
-        ensures { result ≡ handle_refusal self marks }
+    pub fn refusal(self, marks: &[bool; SLOTS]) -> u8
+        ensures { result ≡ handle_refusal self marks.now }
     {
-        refusals::handle(refusals::DONE, is_occupied(marks, parts::widen8(self.slot)))
+        refusals::handle(refusals::DONE, is_occupied(marks, usize::from(self.slot)))
     }
 }

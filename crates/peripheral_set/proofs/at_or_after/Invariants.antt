@@ -11,8 +11,5 @@ invariant-loop-i l = at_or_after l.marks l.i ≡ at_or_after l.marks l.place
 abbrev pub decreases-loop-i : goal.decreases-loop-i
 decreases-loop-i l = slots - l.i
 
-abbrev pub invariant-loop-i-2 : goal.invariant-loop-i-2
-invariant-loop-i-2 l = at_or_after l.marks l.i ≡ at_or_after l.marks l.place
-
-abbrev pub decreases-loop-i-2 : goal.decreases-loop-i-2
-decreases-loop-i-2 l = slots - l.i
+abbrev pub invariant-loop-slot : goal.invariant-loop-slot
+invariant-loop-slot l = at_or_after l.marks l.slot ≡ at_or_after l.marks l.place

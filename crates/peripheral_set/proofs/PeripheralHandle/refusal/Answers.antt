@@ -4,4 +4,4 @@ use Rattle.peripheral_set.proofs.PeripheralHandle.refusal.Goals as goal
 
 pub returns : goal.returns
 unfolding or_else
-returns c = rw (c.is_occupied.ensures, c.widen8.ensures.0) at c.handle.ensures
+returns c = rw (c.is_occupied.ensures, c.from.ensures) at c.handle.ensures
