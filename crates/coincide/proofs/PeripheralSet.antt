@@ -20,25 +20,25 @@ use Rattle.peripheral_set.proofs.PeripheralHandle.none.Reads as R·PeripheralHan
 use Rattle.peripheral_set.proofs.PeripheralHandle.refusal.Kinds as K·PeripheralHandle-refusal
 use Rattle.peripheral_set.proofs.PeripheralHandle.refusal.Reads as R·PeripheralHandle-refusal
 
-pub first_empty : Coincide 0 K·first-empty.ps K·first-empty.r R·first-empty.Learnt (λ κs z y e f. z ≡ y)
+pub first_empty : Coincide 1 K·first-empty.ps K·first-empty.r R·first-empty.Learnt (λ κs z y e f. z ≡ y)
 first_empty κs a z y e f p q = same p q
 
-pub at_or_after : Coincide 0 K·at-or-after.ps K·at-or-after.r R·at-or-after.Learnt (λ κs z y e f. z ≡ y)
+pub at_or_after : Coincide 1 K·at-or-after.ps K·at-or-after.r R·at-or-after.Learnt (λ κs z y e f. z ≡ y)
 at_or_after κs a z y e f p q = same p q
 
-pub next_after : Coincide 0 K·next-after.ps K·next-after.r R·next-after.Learnt (λ κs z y e f. z ≡ y)
+pub next_after : Coincide 1 K·next-after.ps K·next-after.r R·next-after.Learnt (λ κs z y e f. z ≡ y)
 next_after κs a z y e f p q = same p q
 
-pub is_occupied : Coincide 0 K·is-occupied.ps K·is-occupied.r R·is-occupied.Learnt (λ κs z y e f. z ≡ y)
+pub is_occupied : Coincide 1 K·is-occupied.ps K·is-occupied.r R·is-occupied.Learnt (λ κs z y e f. z ≡ y)
 is_occupied κs a z y e f p q = same p q
 
-pub count : Coincide 0 K·count.ps K·count.r R·count.Learnt (λ κs z y e f. z ≡ y)
+pub count : Coincide 1 K·count.ps K·count.r R·count.Learnt (λ κs z y e f. z ≡ y)
 count κs a z y e f p q = same p q
 
-pub nth : Coincide 0 K·nth.ps K·nth.r R·nth.Learnt (λ κs z y e f. z ≡ y)
+pub nth : Coincide 1 K·nth.ps K·nth.r R·nth.Learnt (λ κs z y e f. z ≡ y)
 nth κs a z y e f p q = same p q
 
-pub PeripheralHandle-refusal : Coincide 0 K·PeripheralHandle-refusal.ps K·PeripheralHandle-refusal.r R·PeripheralHandle-refusal.Learnt (λ κs z y e f. z ≡ y)
+pub PeripheralHandle-refusal : Coincide 1 K·PeripheralHandle-refusal.ps K·PeripheralHandle-refusal.r R·PeripheralHandle-refusal.Learnt (λ κs z y e f. z ≡ y)
 PeripheralHandle-refusal κs a z y e f p q = same p q
 
 pub PeripheralHandle-none : Coincide 0 K·PeripheralHandle-none.ps K·PeripheralHandle-none.r R·PeripheralHandle-none.Learnt (λ κs z y e f. z ≡ y)

@@ -1,22 +1,23 @@
 -- The laws of the search and of the listing, over any number of slots.
 -- The idea: a search looks at one slot and then goes on; what it passed had the other mark, and what it found has the wanted one.
--- Slots that are passed together are passed one after the other.
+-- Slots that are passed together are passed one after the other. The library's methods go over the same marks: their words of lists are tied to the
+-- search and to the listing by induction, and a slot's number is below `slots`.
 use mathlib.Core.Path.{◌≡◌, refl, ◌∙◌}
-use mathlib.Core.Bool.{Bool, true, false, not, ◌||◌, cond}
+use mathlib.Core.Bool.{Bool, true, false, not, cond, beq}
 use mathlib.Mathlib.Data.Bool.Basic.{or-eq-false-eq-eq-false-and-eq-false as neither}
 use mathlib.Core.Logic.{by_cases}
-use mathlib.Core.List.{List, [], ◌∷◌}
+use mathlib.Core.List.{List, ◌∷◌}
 use Prim.Native.Nat.{ℕ, zero, suc, ◌+◌, ◌-◌, ◌≤◌, ◌<◌}
 use native.Mathlib.Decide.{dec_le}
 use native.Mathlib.Omega.{arith}
 use native.Mathlib.Numerals.{add-one}
-use lib.ListN.{get_or, length, drop, drop_of_length-le}
+use lib.ListN.{get_or, length, take, drop, drop_of_length-le}
 use lib.Seq.{drop-cons}
 use lib.Dec.{ltb, leb}
 use borrow.Author.Tests.{lt-ltb, le-ltb, ltb-true, ltb-false, lt-leb, le-leb}
 use Rattle.std.specs.Option.{is_some}
 use Rattle.std.proofs.Common.{Some, None, ap, sym}
-use Rattle.std.specs.List.{position_or_len, count_by, filter, range_with_len, slice_get}
+use Rattle.std.specs.List.{position_or_len, count_by, filter, range_with_len, slice_get, find, list_any}
 use Rattle.std.proofs.lemmas.List.Sums.{position_or_len_is, sum_by-cons}
 use Rattle.parts.proofs.Laws.{by_test}
 use Rattle.peripheral_set.specs.Marks.{slots, slot_or_none, same_mark, search_from, listed_from}
@@ -39,35 +40,21 @@ module _ (none : ℕ) (want : Bool) (n : ℕ) (marks : List Bool) (i : ℕ) wher
   unfolding search_from
   search_none l = let z : n - i ≡ 0 = omega arith in rw z refl
 
-  pub listed-step : i < n → listed_from (n - i) marks i ≡ cond (get_or marks i false) (i ∷ listed_from (n - (i + 1)) marks (i + 1)) (listed_from (n - (i + 1)) marks (i + 1))
-  unfolding listed_from
-  listed-step l = rw (one_left l) refl
-
-  pub listed_here : i < n → get_or marks i false ≡ true → listed_from (n - i) marks i ≡ i ∷ listed_from (n - (i + 1)) marks (i + 1)
-  listed_here l e = listed-step l ∙ rw e refl
-
-  pub listed_on : i < n → get_or marks i false ≡ false → listed_from (n - i) marks i ≡ listed_from (n - (i + 1)) marks (i + 1)
-  listed_on l e = listed-step l ∙ rw e refl
-
-  pub listed_none : n ≤ i → listed_from (n - i) marks i ≡ []
-  unfolding listed_from
-  listed_none l = let z : n - i ≡ 0 = omega arith in rw z refl
-
 -- ---- empty slots that a search passes together
 
--- one of k slots from i on is occupied
-unfoldable pub any_from : ℕ → List Bool → ℕ → Bool
-any_from zero marks i = false
-any_from (suc k) marks i = any_from k marks i || get_or marks (i + k) false
+unset : (m : Bool) → beq m true ≡ false → m ≡ false
+unset true e = e
+unset false e = refl
 
 module _ (none n : ℕ) (marks : List Bool) where
-  pub search_past : (k i : ℕ) → i + k ≤ n → any_from k marks i ≡ false → search_from none true (n - i) marks i ≡ search_from none true (n - (i + k)) marks (i + k)
-  unfolding any_from
-  search_past zero i l e = let z : i + 0 ≡ i = omega arith in rw z refl
-  search_past (suc k) i l e =
-      let both = (neither (any_from k marks i) (get_or marks (i + k) false)).0 e in
-      let z : i + suc k ≡ i + k + 1 = omega arith in
-      rw z (search_past k i (omega arith) both.0 ∙ search_on none true n marks (i + k) (omega arith) both.1)
+  pub search_past : (k i : ℕ) → i + k ≤ n → n ≤ length marks → list_any (λ m. beq m true) (take k (drop i marks)) ≡ false
+      → search_from none true (n - i) marks i ≡ search_from none true (n - (i + k)) marks (i + k)
+  search_past zero i l h e = let z : i + 0 ≡ i = omega arith in rw z refl
+  search_past (suc k) i l h e =
+      let next : drop i marks ≡ get_or marks i false ∷ drop (i + 1) marks = rw add-one (drop-cons marks i false (omega arith)) in
+      let both = (neither (beq (get_or marks i false) true) _).0 (rw next at e) in
+      let z : i + suc k ≡ (i + 1) + k = omega arith in
+      rw z (search_on none true n marks i (omega arith) (unset _ both.0) ∙ search_past k (i + 1) (omega arith) h both.1)
 
 -- ---- what a search answers, among k slots from i on
 
@@ -128,6 +115,11 @@ first_mark want marks e =
     (λ h. search_found slots want marks slots 0 (omega arith)) in
     rw (q, e) refl
 
+pub find_mark : (marks : List Bool) (k i : ℕ) → k ≡ slots - i → find (λ s. get_or marks s false) (range_with_len i k) ≡ slot_or_none (search_from slots true k marks i)
+unfolding search_from
+find_mark marks zero i e = refl
+find_mark marks (suc k) i e = by_test (get_or marks i false) (λ t. rw t (sym (slot_some i (omega arith)))) (λ t. rw t (find_mark marks k (i + 1) (omega arith)))
+
 -- ---- the listing
 
 pub length_listed : (marks : List Bool) (k i : ℕ) → i + k ≡ length marks → length (listed_from k marks i) ≡ count_by (λ m. m) (drop i marks)
@@ -150,11 +142,6 @@ unfolding listed_from
 nth_listed marks zero i n h = refl
 nth_listed marks (suc k) i zero h = by_test (get_or marks i false) (λ t. rw t (sym (slot_some i (omega arith)))) (λ t. rw t (nth_listed marks k (i + 1) zero (omega arith)))
 nth_listed marks (suc k) i (suc n) h = by_test (get_or marks i false) (λ t. rw t (nth_listed marks k (i + 1) n (omega arith))) (λ t. rw t (nth_listed marks k (i + 1) (suc n) (omega arith)))
-
--- an element behind the first
-pub second : (x : ℕ) (l : List ℕ) (k d : ℕ) → (k ≡ 0 → ⊥) → get_or (x ∷ l) k d ≡ get_or l (k - 1) d
-second x l zero d h = absurd (h refl)
-second x l (suc k) d h = let e : suc k - 1 ≡ k = omega arith in rw e refl
 
 -- ---- what an optional slot tells of the number
 

@@ -1,25 +1,16 @@
--- `taken_elsewhere` meets its contract. The loop's invariant: what is left to search gives the whole answer.
-use mathlib.Core.Path.{refl, sym, ◌∙◌}
-use Rattle.peripheral_set.specs.Marks.{slots}
-use Rattle.addresses.proofs.Laws.{here, on, past}
+-- `taken_elsewhere` meets its contract: the library's search goes over the slots as the definition does.
+use Rattle.std.proofs.Common.{ℕ, rules, refl, ◌∙◌, get_or}
+use Rattle.std.proofs.lemmas.Iterator.{YieldsList-from_range}
+use Rattle.std.proofs.lemmas.Iterator.Search.{any_from_yields_List}
+use borrow.Author.Tests.{tests}
+use Rattle.peripheral.specs.Record.{blank}
+use Rattle.peripheral_set.specs.Marks.{slots, is_occupied}
+use Rattle.addresses.specs.Addresses.{has_it}
+use Rattle.addresses.proofs.Laws.{any_elsewhere}
 use Rattle.addresses.proofs.taken_elsewhere.Goals as goal
-
-pub loop-i-init : goal.loop-i-init
-loop-i-init c = refl
-
-pub returns-then-has_it : goal.returns-then-has_it
-returns-then-has_it c = let l = c.loop-i in
-    let a = c.args in
-    let h = rw c.is_occupied.ensures at c.has_it.ensures in
-    sym (here a.marks a.all a.slot a.address slots l.i c.loop-i-test.true (sym h ∙ c.if-has_it.true)) ∙ l.invariant
-
-pub loop-i-preserved : goal.loop-i-preserved
-loop-i-preserved c = let l = c.loop-i in
-    let a = c.args in
-    let h = rw c.is_occupied.ensures at c.has_it.ensures in
-    sym (on a.marks a.all a.slot a.address slots l.i c.loop-i-test.true (sym h ∙ c.if-has_it.false)) ∙ l.invariant
 
 pub returns : goal.returns
 returns c = let a = c.args in
-    let l = c.loop-i in
-    sym (past a.marks a.all a.slot a.address slots l.i c.loop-i-test.false) ∙ l.invariant
+    any_from_yields_List (λ (i : ℕ). has_it (is_occupied a.marks.now i) i a.slot (get_or a.all.now i blank) a.address) _ _ c.any.result c.any.ensures.ran
+    (YieldsList-from_range 0 slots slots refl refl) (λ x b q k. search (rules, tests))
+    ∙ any_elsewhere a.marks.now a.all.now a.slot a.address slots 0

@@ -1,11 +1,15 @@
--- `at_or_after` meets its contract. Both loops have one invariant: what is left to search gives the whole answer. It begins behind the place,
--- which is empty; the first loop keeps it by the law of slots that are passed together, the second slot by slot.
-use mathlib.Core.Path.{◌≡◌, sym, ap, ◌∙◌}
-use mathlib.Core.Bool.{true}
-use Prim.Native.Nat.{◌+◌}
+-- `at_or_after` meets its contract. The loop's invariant: what is left to search, from the place where the next eight begin, gives the whole answer.
+-- It begins behind the place, which is empty; eight empty marks are passed by the law of slots that are passed together.
+use Rattle.std.proofs.Common.{◌≡◌, ℕ, ◌-◌, rules, refl, sym, ap, ◌∙◌, get_or, take, drop, ◌+◌, true, false}
+use Rattle.std.specs.List.{list_any}
+use mathlib.Core.Bool.{beq}
+use Rattle.std.proofs.lemmas.Iterator.{YieldsList-from_range}
+use Rattle.std.proofs.lemmas.Iterator.Search.{find_from_yields_List}
+use Rattle.std.proofs.lemmas.Iterator.Adapters.{option_map_id}
+use borrow.Author.Tests.{tests}
 use native.Mathlib.Omega.{arith}
 use Rattle.peripheral_set.specs.Marks.{slots, slot_or_none}
-use Rattle.peripheral_set.proofs.Laws.{search_here, search_on, search_none, any_from, search_past, slot_some}
+use Rattle.peripheral_set.proofs.Laws.{search_here, search_on, search_none, search_past, slot_some, find_mark}
 use Rattle.peripheral_set.proofs.at_or_after.Goals as goal
 
 pub returns-then-place-ge-SLOTS : goal.returns-then-place-ge-SLOTS
@@ -15,24 +19,20 @@ pub returns-then-marks-place : goal.returns-then-marks-place
 returns-then-marks-place c = let a = c.args in
     sym (ap slot_or_none (search_here slots true slots a.marks.now a.place (omega arith) c.if-marks-place.true) ∙ slot_some a.place (omega arith))
 
-pub loop-i-init : goal.loop-i-init
-loop-i-init c = let a = c.args in sym (search_on slots true slots a.marks.now a.place (omega arith) c.if-marks-place.false)
+pub loop-at-init : goal.loop-at-init
+loop-at-init c = let a = c.args in (refl, sym (search_on slots true slots a.marks.now a.place (omega arith) c.if-marks-place.false))
 
-pub loop-i-preserved : goal.loop-i-preserved
-unfolding any_from
-loop-i-preserved c = let a = c.args in
-    let l = c.loop-i in
-    let z : l.i + 0 ≡ l.i = omega arith in sym (search_past slots slots a.marks.now 8 l.i (omega arith) (rw z c.if-marks-i.false)) ∙ l.invariant
-
-pub returns-then-marks-slot : goal.returns-then-marks-slot
-returns-then-marks-slot c = let a = c.args in
-    let l = c.loop-slot in
-    sym (ap slot_or_none (sym l.invariant ∙ search_here slots true slots a.marks.now l.slot c.loop-slot-test.true c.if-marks-slot.true) ∙ slot_some l.slot c.loop-slot-test.true)
-
-pub loop-slot-preserved : goal.loop-slot-preserved
-loop-slot-preserved c = let a = c.args in
-    let l = c.loop-slot in sym (search_on slots true slots a.marks.now l.slot c.loop-slot-test.true c.if-marks-slot.false) ∙ l.invariant
+pub loop-at-preserved : goal.loop-at-preserved
+loop-at-preserved c = let a = c.args in
+    let l = c.loop-at in
+    let eight : l.at + 8 - l.at ≡ 8 = omega arith in
+    let empty : list_any (λ m. beq m true) (take (l.at + 8 - l.at) (drop l.at a.marks.now)) ≡ false = sym c.contains.ensures.value ∙ c.if-contains.false in
+    (refl, sym (search_past slots slots a.marks.now 8 l.at (omega arith) (omega arith) (rw eight at empty)) ∙ l.invariant.1)
 
 pub returns : goal.returns
-returns c = let a = c.args in
-    let l = c.loop-slot in sym (ap slot_or_none (sym l.invariant ∙ search_none slots true slots a.marks.now l.slot c.loop-slot-test.false))
+returns c = let marks = c.args.marks.now in
+    let from = c.loop-at.from in
+    sym (option_map_id c.find.result)
+    ∙ find_from_yields_List (λ (s : ℕ). get_or marks s false) _ _ c.find.result c.find.ensures.ran (YieldsList-from_range from slots (slots - from) refl refl) (λ x b q k. search (rules, tests))
+    ∙ find_mark marks (slots - from) from refl
+    ∙ ap slot_or_none (rw c.loop-at.invariant.0 c.loop-at.invariant.1)
