@@ -16,9 +16,8 @@ use Rattle.cycle.specs.Seen.{index_of}
 use Rattle.answers.specs.declared.reply_answer.Judged.{Judged}
 use Rattle.answers.specs.ReplyAnswer.{judged_by, judged_of}
 use Rattle.master.specs.declared.unit.DpMaster.{DpMaster}
-use Rattle.master.specs.declared.receive.Answered.{Answered}
 use Rattle.master.specs.Unit.{state_is, balances_are}
-use Rattle.master.specs.Receive.{open_balance, open_request, reply_at, Replies, Received}
+use Rattle.master.specs.Receive.{Answered, open_balance, open_request, reply_at, Replies, Received}
 
 -- the unit with what was judged stored
 abbrev pub stored_in : DpMaster → Judged → DpMaster

@@ -14,11 +14,11 @@ use Rattle.peripheral.specs.declared.record.Peripheral.{Peripheral}
 use Rattle.peripheral.specs.declared.visit.Visit.{Visit}
 use Rattle.peripheral.specs.Record.{blank}
 use Rattle.peripheral.specs.Visit.{visit_action, visited_by, visit_of}
-use Rattle.peripheral_set.specs.Marks.{slots, search_from}
-use Rattle.peripheral_set.proofs.Laws.{search_found, search-from}
+use Rattle.peripheral_set.specs.Marks.{slots, slot_or_none, or_slots, at_or_after, search_from}
+use Rattle.peripheral_set.proofs.Laws.{search_found, search-from, some_slot, at_or_after-again}
 use Rattle.cycle.specs.declared.seen.Seen.{Seen}
 use Rattle.cycle.specs.declared.seen.Sent.{Sent}
-use Rattle.cycle.specs.declared.seen.Sent.TheVariants.{Nobody, To}
+use Rattle.std.specs.Prelude.{Option, Some, None}
 use Rattle.cycle.specs.Seen.{seen_by, idle, next_in}
 use Rattle.master.specs.declared.unit.DpMaster.{DpMaster}
 use Rattle.master.specs.Unit.{balances_are}
@@ -89,25 +89,25 @@ module _ (limit : ℕ) (marks : List Bool) where
       → sweep_from (slots - start) limit marks start seen ps ≡ sweep_from (slots - i) limit marks i seen ps
   sweeping_all seen ps start i e = rw e (sweep_jump limit marks slots seen ps start)
 
-  next_later : (sent : Sent) (i : ℕ) → i < slots → i < next_in sent marks i
-  next_later Nobody i h = omega (arith, search-from slots true marks (slots - (i + 1)) (i + 1) (omega arith))
-  next_later (To slot k) i h = h
+  next_later : (sent : Option Sent) (i : ℕ) → i < slots → i < next_in sent marks i
+  next_later None i h = omega (arith, search-from slots true marks (slots - (i + 1)) (i + 1) (omega arith))
+  next_later (Some x) i h = h
 
-  pub falls : (sent : Sent) (i next : ℕ) → i < slots → next ≡ next_in sent marks i → slots - next < slots - i
+  pub falls : (sent : Option Sent) (i next : ℕ) → i < slots → next ≡ next_in sent marks i → slots - next < slots - i
   falls sent i next h e = rw e (omega (arith, next_later sent i h))
 
-  next_whole : (sent : Sent) (seen : Seen) (ps : List Peripheral) (i : ℕ) → seen.sent ≡ sent → sweep_from (slots - next_in sent marks i) limit marks (next_in sent marks i) seen ps ≡ sweep_from (slots - (i + 1)) limit marks (i + 1) seen ps
-  next_whole Nobody seen ps i e = sym (sweep_jump limit marks slots seen ps (i + 1))
-  next_whole (To slot k) seen ps i e =
+  next_whole : (sent : Option Sent) (seen : Seen) (ps : List Peripheral) (i : ℕ) → seen.sent ≡ sent → sweep_from (slots - next_in sent marks i) limit marks (next_in sent marks i) seen ps ≡ sweep_from (slots - (i + 1)) limit marks (i + 1) seen ps
+  next_whole None seen ps i e = sym (sweep_jump limit marks slots seen ps (i + 1))
+  next_whole (Some x) seen ps i e =
       sweep_none limit marks slots seen ps ∙ sym (sweep_stopped limit marks (slots - (i + 1)) (i + 1) seen ps (ap idle e))
 
-  next-marked : (sent : Sent) (i : ℕ) → next_in sent marks i < slots → get_or marks (next_in sent marks i) false ≡ true
-  next-marked Nobody i h = found (slots - (i + 1)) (i + 1) h
-  next-marked (To slot k) i h = absurd (omega arith)
+  next-marked : (sent : Option Sent) (i : ℕ) → next_in sent marks i < slots → get_or marks (next_in sent marks i) false ≡ true
+  next-marked None i h = found (slots - (i + 1)) (i + 1) h
+  next-marked (Some x) i h = absurd (omega arith)
 
-  next_waiting : (sent : Sent) (i : ℕ) → next_in sent marks i < slots → idle sent ≡ true
-  next_waiting Nobody i h = refl
-  next_waiting (To slot k) i h = absurd (omega arith)
+  next_waiting : (sent : Option Sent) (i : ℕ) → next_in sent marks i < slots → idle sent ≡ true
+  next_waiting None i h = refl
+  next_waiting (Some x) i h = absurd (omega arith)
 
   -- one visit v; next is the slot where the visits go on
   pub sweeping_goes_on : (all : Swept) (m₀ m : DpMaster) (seen seen' : Seen) (i next : ℕ) (v : Visit) → i < slots → Sweeping limit marks all m₀ m seen i
@@ -127,3 +127,52 @@ module _ (limit : ℕ) (marks : List Bool) where
 
   pub sweeping_ends : (all : Swept) (m₀ m : DpMaster) (seen : Seen) (i : ℕ) → slots ≤ i → Sweeping limit marks all m₀ m seen i → all ≡ record { seen = seen; balances = m.peripherals }
   sweeping_ends all m₀ m seen i h s = let z : slots - i ≡ 0 = omega arith in sym s.whole ∙ rw z (sweep_none limit marks i seen m.peripherals)
+
+-- ---- the same with the next slot as an Option
+
+pub record Going (limit : ℕ) (marks : List Bool) (all : Swept) (m₀ m : DpMaster) (seen : Seen) (next : Option ℕ) : Type 0 where
+  pub sweeping : Sweeping limit marks all m₀ m seen (or_slots next)
+  pub proper : next ≡ slot_or_none (or_slots next)
+
+module _ (limit : ℕ) (marks : List Bool) where
+  -- the number of an optional slot that a search answered
+  found_at : (place : ℕ) (next : Option ℕ) → next ≡ slot_or_none (at_or_after marks place) → or_slots next ≡ at_or_after marks place
+  found_at place next e = ap or_slots e ∙ at_or_after-again marks place
+
+  pub going_begins : (m : DpMaster) (seen : Seen) (start : ℕ) (next : Option ℕ) → next ≡ slot_or_none (at_or_after marks start) → idle seen.sent ≡ true
+      → Going limit marks (sweep_from (slots - or_slots next) limit marks (or_slots next) seen m.peripherals) m m seen next
+  going_begins m seen start next e w =
+      let i = found_at start next e in
+      record { sweeping = sweeping_begins limit marks m seen start (or_slots next) i w; proper = e ∙ ap slot_or_none (sym i) }
+
+  pub going_all : (seen : Seen) (ps : List Peripheral) (start : ℕ) (next : Option ℕ) → next ≡ slot_or_none (at_or_after marks start)
+      → sweep_from (slots - start) limit marks start seen ps ≡ sweep_from (slots - or_slots next) limit marks (or_slots next) seen ps
+  going_all seen ps start next e = sweeping_all limit marks seen ps start (or_slots next) (found_at start next e)
+
+  -- the slot at hand is one
+  pub at_hand : (i : ℕ) → Some i ≡ slot_or_none i → i < slots
+  at_hand i p = (some_slot i i (sym p)).1
+
+  next_at : (sent : Option Sent) (i : ℕ) (next : Option ℕ) → next ≡ slot_or_none (next_in sent marks i) → or_slots next ≡ next_in sent marks i
+  next_at None i next e = found_at (i + 1) next e
+  next_at (Some x) i next e = ap or_slots e
+
+  pub going_falls : (sent : Option Sent) (i : ℕ) (next : Option ℕ) → Some i ≡ slot_or_none i → next ≡ slot_or_none (next_in sent marks i) → slots - or_slots next < slots - i
+  going_falls sent i next p e = falls limit marks sent i (or_slots next) (at_hand i p) (next_at sent i next e)
+
+  pub going_on : (all : Swept) (m₀ m : DpMaster) (seen seen' : Seen) (i : ℕ) (next : Option ℕ) (v : Visit) → Going limit marks all m₀ m seen (Some i)
+      → v ≡ visit_of limit (get_or m.peripherals i blank) → seen' ≡ seen_by i v.what seen → next ≡ slot_or_none (next_in seen'.sent marks i)
+      → Going limit marks all m₀ (balances_are (set m.peripherals i v.peripheral) m) seen' next
+  going_on all m₀ m seen seen' i next v g ev es en =
+      let n = next_at seen'.sent i next en in
+      record {
+        sweeping = sweeping_goes_on limit marks all m₀ m seen seen' i (or_slots next) v (at_hand i g.proper) g.sweeping ev es n;
+        proper = en ∙ ap slot_or_none (sym n);
+      }
+
+  pub going_ends : (all : Swept) (m₀ m : DpMaster) (seen : Seen) → Going limit marks all m₀ m seen None → all ≡ record { seen = seen; balances = m.peripherals }
+  going_ends all m₀ m seen g = sweeping_ends limit marks all m₀ m seen slots (omega arith) g.sweeping
+
+  -- the marks stay
+  pub same_marks : (all : Swept) (m₀ m : DpMaster) (seen : Seen) (next : Option ℕ) → Going limit marks all m₀ m seen next → m.occupied ≡ m₀.occupied
+  same_marks all m₀ m seen next g = ap (λ (x : DpMaster). x.occupied) g.sweeping.rest

@@ -1,4 +1,4 @@
--- Creation, and a turn put together from its pieces or refused.
+-- A turn put together from its pieces or refused.
 -- The idea: the visits are named by what the loop left, and everything else cites them.
 use mathlib.Core.Path.{◌≡◌, refl, sym, ap, ◌∙◌, subst}
 use mathlib.Core.List.{List}
@@ -11,25 +11,13 @@ use Rattle.peripheral.specs.declared.record.Peripheral.{Peripheral}
 use Rattle.peripheral.specs.Record.{blank}
 use Rattle.cycle.specs.declared.seen.Seen.{Seen}
 use Rattle.cycle.specs.declared.state.Step.{Step}
-use Rattle.cycle.specs.Seen.{sent_index}
+use Rattle.cycle.specs.Seen.{sent_index, first_index}
 use Rattle.cycle.specs.State.{operating_of, is_clear, after_turn}
 use Rattle.master.specs.declared.unit.DpMaster.{DpMaster}
 use Rattle.answers.specs.declared.turn.Filled.{Filled}
-use Rattle.master.specs.declared.turn.Turn.{Turn}
-use Rattle.master.specs.Unit.{empty_unit, created_of, state_is, balances_are, balance_at}
+use Rattle.master.specs.Unit.{state_is, balances_are}
 use Rattle.answers.specs.Turn.{payload_sent, Filling, answer_of, refused_turn}
-use Rattle.master.specs.Turn.{Swept, turn_payload, turn_answer, Turns}
-
--- ---- creation
-
-module _ (u : Parameters) (n : ℕ) (m : DpMaster) (en : n ≡ creation_refusal u) where
-  pub created : n ≡ 0 → m ≡ empty_unit (in_force u) → record { refusal = n; master = m } ≡ created_of u
-  unfolding created_of
-  created z e = rw (← en, z, e) refl
-
-  pub uncreated : (n ≡ 0 → ⊥) → m ≡ empty_unit lowest → record { refusal = n; master = m } ≡ created_of u
-  unfolding created_of
-  uncreated h e = rw (← en, ne_eqb n 0 h, e) refl
+use Rattle.master.specs.Turn.{Turn, Swept, turn_payload, turn_answer, Turns}
 
 -- ---- the turn
 
@@ -45,10 +33,10 @@ module _ (n : ℕ) (step : Step) (w : Swept) (m : DpMaster) (time : ℕ) (setup 
         → r.master ≡ state_is (after_turn step seen.sent time m.state) (balances_are ps m)
         → Filling step seen.sent (get_or ps (sent_index seen.sent) blank) m.parameters
         (payload_sent step seen.sent (get_or ps (sent_index seen.sent) blank) m.parameters (is_clear (operating_of m.state.operating)) setup outputs) buf out filled
-        → r.answer ≡ answer_of step seen (balance_at ps seen.first).station.address filled
+        → r.answer ≡ answer_of step seen (get_or ps (first_index seen.first) blank).station.address filled
         → Turns n step w (turn_payload step w m setup outputs) m time buf out r
     unfolding turn_payload turn_answer
     turn-accepted filled out r z ew em f ea =
         let e = eq-eqb n 0 z in
         subst (λ (x : Swept). Turns n step x (turn_payload step x m setup outputs) m time buf out r) (sym ew)
-        (record { after = rw e em; answer = rw e (ea ∙ ap (answer_of step seen (balance_at ps seen.first).station.address) f.answer); bytes = rw e f.bytes })
+        (record { after = rw e em; answer = rw e (ea ∙ ap (answer_of step seen (get_or ps (first_index seen.first) blank).station.address) f.answer); bytes = rw e f.bytes })

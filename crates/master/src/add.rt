@@ -1,6 +1,7 @@
 // Adding a balance.
 ghost use Rattle.std.specs.Prelude.{◌≡◌, cond, [], ◌+◌, ◌≤◌};
 ghost use Rattle.refusals.specs.Table.{outcome};
+ghost use Rattle.peripheral_set.specs.Marks.{first_empty};
 ghost use Rattle.cycle.specs.Refusal.{length_refusal};
 ghost use Rattle.master.specs.Pools.{pools_of};
 ghost use Rattle.master.specs.Add.{ranges_at, used_after, options_held, room_refusal, setup_after, cleared, added_of, Adding};
@@ -121,6 +122,13 @@ fn clear(pool: &mut [u8], at: u16, len: u8)
 }
 
 impl DpMaster {
+    // The first empty slot; SLOTS where there is none.
+    fn first_empty(&self) -> usize
+        ensures { result ≡ first_empty self.now.occupied }
+    {
+        peripheral_set::first_empty(&self.occupied).unwrap_or(SLOTS)
+    }
+
     // A balance is added in the first empty slot, each of its ranges behind the used part of its pool; answers its handle, by which all later calls name it.
     // Refuses: add_rows and room_rows.
     // Changes: the slot, its mark and the used lengths; set-up data is copied in, the other three ranges are zeroed.
@@ -152,10 +160,19 @@ impl DpMaster {
             outputs: outputs.len(),
             diags: diags.len(),
         };
-        let slot = peripheral_set::first_empty(&self.occupied).unwrap_or(SLOTS);
-        let elsewhere = addresses::taken_elsewhere(&self.occupied, &self.peripherals, slot, a.address);
+        let slot = self.first_empty();
+        let elsewhere = addresses::taken_elsewhere(
+            &self.occupied,
+            &self.peripherals,
+            slot,
+            a.address,
+        );
         cycle::refusal::add_refusal(u, lent, slot, a.address, elsewhere, l)?;
-        let p = Peripheral::new(a.address, options_held(a.options, l), ranges_at(self.used, l));
+        let p = Peripheral::new(
+            a.address,
+            options_held(a.options, l),
+            ranges_at(self.used, l),
+        );
         room_refusal(u, p)?;
         self.peripherals[slot] = p;
         self.occupied[slot] = true;

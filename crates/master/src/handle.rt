@@ -14,7 +14,12 @@ impl DpMaster {
         ensures { result ≡ outcome (reset_refusal self.now.parameters self.now.occupied self.now.peripherals handle address) }
     {
         let slot = usize::from(handle.slot);
-        let elsewhere = addresses::taken_elsewhere(&self.occupied, &self.peripherals, slot, address);
+        let elsewhere = addresses::taken_elsewhere(
+            &self.occupied,
+            &self.peripherals,
+            slot,
+            address,
+        );
         handle
             .refusal(&self.occupied)
             .and(refusals::address(address, self.parameters.address))

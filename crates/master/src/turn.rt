@@ -33,14 +33,15 @@ impl DpMaster {
         if let Err(refusal) = refusal {
             return TurnAnswer::refused(u8::from(refusal));
         }
+        let marks = self.occupied;
         let step = s.step(time, high_prio_only, u.slot_time);
         let mut seen = Seen::new();
-        let mut next = peripheral_set::at_or_after(&self.occupied, s.start(step));
+        let mut next = peripheral_set::at_or_after(&marks, s.start(step));
         while let Some(i) = next {
             let v = self.peripherals[i].visit(u.max_retry_limit);
             self.peripherals[i] = v.peripheral;
             seen = seen.seen_after(i as u8, v.what);
-            next = seen.next(&self.occupied, i);
+            next = seen.next(&marks, i);
         }
         self.state = s.after_turn(step, seen.sent, time);
         let first = self.peripherals[seen.first_index()];

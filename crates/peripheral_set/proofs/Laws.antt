@@ -20,7 +20,7 @@ use Rattle.std.proofs.Common.{Some, None, ap, sym}
 use Rattle.std.specs.List.{position_or_len, count_by, filter, range_with_len, slice_get, find, list_any}
 use Rattle.std.proofs.lemmas.List.Sums.{position_or_len_is, sum_by-cons}
 use Rattle.parts.proofs.Laws.{by_test}
-use Rattle.peripheral_set.specs.Marks.{slots, slot_or_none, same_mark, search_from, listed_from}
+use Rattle.peripheral_set.specs.Marks.{slots, slot_or_none, or_slots, first_empty, at_or_after, same_mark, search_from, listed_from}
 
 module _ (none : ℕ) (want : Bool) (n : ℕ) (marks : List Bool) (i : ℕ) where
   one_left : i < n → n - i ≡ suc (n - (i + 1))
@@ -157,3 +157,18 @@ none_told i b e =
     true_not : (b : Bool) → false ≡ not b → b ≡ true
     true_not true q = refl
     true_not false q = q
+
+-- a number that is at most that of the slots is its own optional slot
+pub again : (i : ℕ) → i ≤ slots → or_slots (slot_or_none i) ≡ i
+again i h =
+    by_test (ltb i slots) (λ l. rw (slot_some i (ltb-true i slots l)) refl)
+    (λ l. let g : slots ≤ i = ltb-false i slots l in rw (slot_none i g) (omega (arith, g, h)))
+
+pub first_empty-again : (marks : List Bool) → or_slots (slot_or_none (first_empty marks)) ≡ first_empty marks
+first_empty-again marks = again (first_empty marks) (search_bound slots false marks slots 0 (omega arith))
+
+pub at_or_after-again : (marks : List Bool) (place : ℕ) → or_slots (slot_or_none (at_or_after marks place)) ≡ at_or_after marks place
+unfolding search_from
+at_or_after-again marks place =
+    by_cases (dec_le place slots) (λ h. again (at_or_after marks place) (search_bound slots true marks (slots - place) place (omega (arith, h))))
+    (λ h. let z : slots - place ≡ 0 = omega arith in again (at_or_after marks place) (rw z (search_bound slots true marks 0 0 (omega arith) )))

@@ -1,6 +1,7 @@
 -- Which slots are occupied: the first empty one, the next occupied one, the listing, and when a handle is refused.
 -- From 01, "The unit and its sizes" (adding, handles), "One turn" (occupied slots upward), "Refusal numbers", No. 4, and "iter".
 use Rattle.std.specs.Prelude.{ℕ, zero, suc, ◌+◌, ◌-◌, Bool, true, false, not, ◌&&◌, cond, List, [], ◌∷◌, get_or, ltb, Option, Some, None}
+use Rattle.std.specs.Option.{unwrap_or}
 use Rattle.refusals.specs.Table.{handle_row, first_of}
 use Rattle.peripheral_set.specs.declared.PeripheralHandle.{PeripheralHandle}
 
@@ -14,8 +15,7 @@ slot_or_none i = cond (ltb i slots) (Some i) None
 
 -- a slot that may be none, as a number; none is the number behind the last slot
 abbrev pub or_slots : Option ℕ → ℕ
-or_slots None = slots
-or_slots (Some i) = i
+or_slots i = unwrap_or i slots
 
 -- no slot and no address: what stands for a handle where there is none (DECISIONS 10)
 abbrev pub no_handle : PeripheralHandle

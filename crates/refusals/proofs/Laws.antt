@@ -7,7 +7,7 @@ use Prim.Native.Nat.{ℕ, zero, suc, ◌<◌}
 use native.Mathlib.Omega.{arith}
 use lib.Dec.{eqb}
 use Rattle.std.specs.Prelude.{Result, Ok, Err}
-use Rattle.std.specs.Result.{result_and}
+use Rattle.std.specs.Result.{result_and, IsErrAnd}
 use lib.ListN.{get_or, drop}
 use borrow.Author.Tests.{eqb-true, eq-eqb, not-true}
 use Rattle.parts.proofs.Laws.{and_left, and_right}
@@ -83,6 +83,11 @@ done_is n p = by (eqb n 0) refl p
     by : (b : Bool) → eqb n 0 ≡ b → cond b (outcome 0) (Err (refusal_numbered n)) ≡ outcome 0 → n ≡ 0
     by true e p = eqb-true n 0 e
     by false e p = cc p
+
+-- what `?` passes up
+pub passed_up : {A : Type 0} (r : Result A Refusal) (e : Refusal) → IsErrAnd r (λ y. y ≡ e) → r ≡ Err e
+passed_up (Ok v) e p = absurd p
+passed_up (Err y) e p = ap Err p
 
 -- a value that is given
 pub given_here : {A : Type 0} (n : ℕ) (v : A) → n ≡ 0 → given n v ≡ Ok v

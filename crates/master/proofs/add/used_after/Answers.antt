@@ -1,5 +1,4 @@
 -- `used_after` meets its contract: each range lies in its pool.
-use mathlib.Core.Path.{refl}
 use native.Mathlib.Omega.{arith}
 use Rattle.master.proofs.Checks.{setup-room, input-room, output_room, diag_room}
 use Rattle.master.proofs.add.used_after.Goals as goal
@@ -15,6 +14,3 @@ end_of-requires-3 c = omega (arith, output_room c.args.u c.args.p c.requires)
 
 pub end_of-requires-4 : goal.end_of-requires-4
 end_of-requires-4 c = omega (arith, diag_room c.args.u c.args.p c.requires)
-
-pub returns : goal.returns
-returns c = rw (c.end_of-4.ensures, c.widen8-3.ensures.0, c.end_of-3.ensures, c.widen8-2.ensures.0, c.end_of-2.ensures, c.widen8.ensures.0, c.end_of.ensures, c.setup_len.ensures) refl
