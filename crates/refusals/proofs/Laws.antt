@@ -111,6 +111,13 @@ given_err n v w {e} p = by (eqb n 0) p
     by true p = cc p
     by false p = cc p
 
+-- what is made of a given value, and what `?` passes up where none is given
+pub given_with : {A B : Type 0} (n : ℕ) (v x : A) (f : A → B) → given n v ≡ Ok x → Ok (f x) ≡ given n (f v)
+given_with n v x f p = let g = given_ok n v x p in rw (← g.1) (sym (given_here n (f v) g.0))
+
+pub given_up : {A B : Type 0} (n : ℕ) (v : A) (w : B) (r : Result B Refusal) (e : Refusal) → given n v ≡ Err e → IsErrAnd r (λ y. y ≡ e) → r ≡ given n w
+given_up n v w r e p i = passed_up r e i ∙ sym (given_err n v w p)
+
 pub given-not : {A : Type 0} (n : ℕ) (v : A) {e : Refusal} → given n v ≡ Err e → n ≡ 0 → ⊥
 unfolding given
 given-not n v {e} p z = cc (rw z at p)
