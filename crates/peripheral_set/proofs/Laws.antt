@@ -16,6 +16,7 @@ use lib.Seq.{drop-cons}
 use lib.Dec.{ltb}
 use borrow.Author.Tests.{lt-ltb, le-ltb}
 use Rattle.std.proofs.Common.{Some, None, ap, sym}
+use Rattle.std.specs.Option.{unwrap_or}
 use Rattle.std.specs.List.{position_or_len, count_by, filter, range_with_len, slice_get, find, list_any}
 use Rattle.std.proofs.lemmas.List.Sums.{position_or_len_is, sum_by-cons}
 use Rattle.parts.proofs.Laws.{by_test}
@@ -102,6 +103,24 @@ some_slot i s e = by_cases (dec_le slots i) (λ h. absurd (let n = slot_none i h
 
 pub none_slot : (i : ℕ) → slot_or_none i ≡ None → slots ≤ i
 none_slot i e = by_cases (dec_le slots i) (λ h. h) (λ h. let y = slot_some i (omega (arith, h)) in cc)
+
+-- the number again, where a caller puts `slots` for none
+pub or_slots : (i : ℕ) → i ≤ slots → unwrap_or (slot_or_none i) slots ≡ i
+or_slots i h = by_cases (dec_le slots i) (λ l. let q : i ≡ slots = omega arith in rw q refl) (λ l. rw (slot_some i (omega (arith, l))) refl)
+
+pub none_is : (i : ℕ) → i ≤ slots → slot_or_none i ≡ None → i ≡ slots
+none_is i h e = omega (arith, none_slot i e)
+
+-- what the searches and the listing have is a slot's number, or `slots`
+pub search_to : (want : Bool) (marks : List Bool) (i : ℕ) → search_from slots want (slots - i) marks i ≤ slots
+search_to want marks i =
+    by_cases (dec_le i slots) (λ h. search_bound slots want marks (slots - i) i (omega arith)) (λ h. omega (arith, h, search_none slots want slots marks i (omega (arith, h))))
+
+pub listed_to : (marks : List Bool) (k i n : ℕ) → i + k ≤ slots → get_or (listed_from k marks i) n slots ≤ slots
+unfolding listed_from
+listed_to marks zero i n h = omega arith
+listed_to marks (suc k) i zero h = by_test (get_or marks i false) (λ t. rw t (omega arith)) (λ t. rw t (listed_to marks k (i + 1) zero (omega arith)))
+listed_to marks (suc k) i (suc n) h = by_test (get_or marks i false) (λ t. rw t (listed_to marks k (i + 1) n (omega arith))) (λ t. rw t (listed_to marks k (i + 1) (suc n) (omega arith)))
 
 -- the first mark of the library's search in a list is that of the search among the slots
 pub first_mark : (want : Bool) (marks : List Bool) → length marks ≡ slots
