@@ -111,16 +111,10 @@ or_slots i h = by_cases (dec_le slots i) (λ l. let q : i ≡ slots = omega arit
 pub none_is : (i : ℕ) → i ≤ slots → slot_or_none i ≡ None → i ≡ slots
 none_is i h e = omega (arith, none_slot i e)
 
--- what the searches and the listing have is a slot's number, or `slots`
+-- what a search has is a slot's number, or `slots`
 pub search_to : (want : Bool) (marks : List Bool) (i : ℕ) → search_from slots want (slots - i) marks i ≤ slots
 search_to want marks i =
     by_cases (dec_le i slots) (λ h. search_bound slots want marks (slots - i) i (omega arith)) (λ h. omega (arith, h, search_none slots want slots marks i (omega (arith, h))))
-
-pub listed_to : (marks : List Bool) (k i n : ℕ) → i + k ≤ slots → get_or (listed_from k marks i) n slots ≤ slots
-unfolding listed_from
-listed_to marks zero i n h = omega arith
-listed_to marks (suc k) i zero h = by_test (get_or marks i false) (λ t. rw t (omega arith)) (λ t. rw t (listed_to marks k (i + 1) zero (omega arith)))
-listed_to marks (suc k) i (suc n) h = by_test (get_or marks i false) (λ t. rw t (listed_to marks k (i + 1) n (omega arith))) (λ t. rw t (listed_to marks k (i + 1) (suc n) (omega arith)))
 
 -- the first mark of the library's search in a list is that of the search among the slots
 pub first_mark : (want : Bool) (marks : List Bool) → length marks ≡ slots
@@ -140,6 +134,12 @@ find_mark marks (suc k) i e = by_test (get_or marks i false) (λ t. rw t (sym (s
 
 -- ---- the listing
 
+-- the listing is what the marks leave of the slots
+pub listed_filter : (marks : List Bool) (k i : ℕ) → filter (λ s. get_or marks s false) (range_with_len i k) ≡ listed_from k marks i
+unfolding listed_from
+listed_filter marks zero i = refl
+listed_filter marks (suc k) i = by_test (get_or marks i false) (λ t. rw t (ap (λ (l : List ℕ). i ∷ l) (listed_filter marks k (i + 1)))) (λ t. rw t (listed_filter marks k (i + 1)))
+
 pub length_listed : (marks : List Bool) (k i : ℕ) → i + k ≡ length marks → length (listed_from k marks i) ≡ count_by (λ m. m) (drop i marks)
 unfolding listed_from
 length_listed marks zero i e = let none = drop_of_length-le marks {i = i} (omega arith) in rw none refl
@@ -149,14 +149,15 @@ length_listed marks (suc k) i e =
     let more = sum_by-cons (λ m. cond m 1 0) (get_or marks i false) (drop (i + 1) marks) in
     rw (next, more) (by_test (get_or marks i false) (λ t. rw t (omega arith)) (λ t. rw t (omega arith)))
 
--- the listing is what the marks leave of the slots
-pub listed_filter : (marks : List Bool) (k i : ℕ) → filter (λ s. get_or marks s false) (range_with_len i k) ≡ listed_from k marks i
-unfolding listed_from
-listed_filter marks zero i = refl
-listed_filter marks (suc k) i = by_test (get_or marks i false) (λ t. rw t (ap (λ (l : List ℕ). i ∷ l) (listed_filter marks k (i + 1)))) (λ t. rw t (listed_filter marks k (i + 1)))
-
 pub nth_listed : (marks : List Bool) (k i n : ℕ) → i + k ≤ slots → slice_get (listed_from k marks i) n ≡ slot_or_none (get_or (listed_from k marks i) n slots)
 unfolding listed_from
 nth_listed marks zero i n h = refl
 nth_listed marks (suc k) i zero h = by_test (get_or marks i false) (λ t. rw t (sym (slot_some i (omega arith)))) (λ t. rw t (nth_listed marks k (i + 1) zero (omega arith)))
 nth_listed marks (suc k) i (suc n) h = by_test (get_or marks i false) (λ t. rw t (nth_listed marks k (i + 1) n (omega arith))) (λ t. rw t (nth_listed marks k (i + 1) (suc n) (omega arith)))
+
+-- what it has is a slot's number, or `slots`
+pub listed_to : (marks : List Bool) (k i n : ℕ) → i + k ≤ slots → get_or (listed_from k marks i) n slots ≤ slots
+unfolding listed_from
+listed_to marks zero i n h = omega arith
+listed_to marks (suc k) i zero h = by_test (get_or marks i false) (λ t. rw t (omega arith)) (λ t. rw t (listed_to marks k (i + 1) zero (omega arith)))
+listed_to marks (suc k) i (suc n) h = by_test (get_or marks i false) (λ t. rw t (listed_to marks k (i + 1) n (omega arith))) (λ t. rw t (listed_to marks k (i + 1) (suc n) (omega arith)))
