@@ -2,12 +2,13 @@
 -- The idea: the n-th entry is the entry of the n-th occupied slot, and writing them one after the other lays them over the front.
 use mathlib.Core.Path.{◌≡◌, refl, sym, ap}
 use mathlib.Core.Bool.{Bool, true, false, cond}
-use mathlib.Core.List.{List, [], ◌∷◌}
+use mathlib.Core.List.{List, [], ◌∷◌, ◌++◌, append-nil}
 use Prim.Native.Nat.{ℕ, zero, suc, ◌+◌, ◌≤◌, ◌<◌}
 use native.Mathlib.Nat.{not-suc-le-zero, le_of_suc-le-suc}
 use native.Mathlib.Omega.{arith}
+use lib.Seq.{length-take-le}
 use lib.Dec.{leb}
-use lib.ListN.{length, set, take, get_or, length-map, get_or-map}
+use lib.ListN.{length, set, take, drop, drop_of_length-le, get_or, length-map, get_or-map}
 use borrow.Author.Tests.{leb-true}
 use Rattle.parts.proofs.Laws.{by_test}
 use Rattle.peripheral_set.specs.declared.Entry.{Entry}
@@ -67,6 +68,12 @@ take-fits zero new n h = omega arith
 take-fits (suc i) [] n h = h
 take-fits (suc i) (x ∷ new) zero h = absurd (not-suc-le-zero h)
 take-fits (suc i) (x ∷ new) (suc n) h = omega (arith, take-fits i new n (le_of_suc-le-suc h))
+
+-- the rows that are all written over, with the rest of the list behind them
+pub laid : (new old rows : List Entry) (k : ℕ) → k ≡ length new → k ≤ length old → rows ≡ overlay new (take k old) → rows ++ drop k old ≡ overlay new old
+laid new old rows k e h q =
+    let none : drop (length new) (take k old) ≡ [] = drop_of_length-le (take k old) {i = length new} (omega (arith, length-take-le k old h)) in
+    rw q (rw none (rw (append-nil new, e) refl))
 
 pub take_all : (new : List Entry) → take (length new) new ≡ new
 take_all [] = refl

@@ -37,12 +37,8 @@ pub fn iter(m: DpMaster, list: &mut [Entry]) -> Listed
     ensures { Iterated m list.old list.new result }
 {
     let l = listed_in(m, list.len());
-    let n = l.count;
-    let mut i: usize = 0;
-    while i < n {
-        let e = access::listing::entry(m, i);
-        list[i] = e;
-        i += 1;
+    for (i, row) in list[..l.count].iter_mut().enumerate() {
+        *row = access::listing::entry(m, i);
     }
     l
 }

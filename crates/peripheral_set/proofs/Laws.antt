@@ -104,6 +104,18 @@ some_slot i s e = by_cases (dec_le slots i) (λ h. absurd (let n = slot_none i h
 pub none_slot : (i : ℕ) → slot_or_none i ≡ None → slots ≤ i
 none_slot i e = by_cases (dec_le slots i) (λ h. h) (λ h. let y = slot_some i (omega (arith, h)) in cc)
 
+-- the number again, where a caller puts `slots` for none
+pub again : (i : ℕ) → i ≤ slots → or_slots (slot_or_none i) ≡ i
+again i h = by_cases (dec_le slots i) (λ l. let q : i ≡ slots = omega arith in rw q refl) (λ l. rw (slot_some i (omega (arith, l))) refl)
+
+pub none_is : (i : ℕ) → i ≤ slots → slot_or_none i ≡ None → i ≡ slots
+none_is i h e = omega (arith, none_slot i e)
+
+-- what a search has is a slot's number, or `slots`
+pub search_to : (want : Bool) (marks : List Bool) (i : ℕ) → search_from slots want (slots - i) marks i ≤ slots
+search_to want marks i =
+    by_cases (dec_le i slots) (λ h. search_bound slots want marks (slots - i) i (omega arith)) (λ h. omega (arith, h, search_none slots want slots marks i (omega (arith, h))))
+
 -- the first mark of the library's search in a list is that of the search among the slots
 pub first_mark : (want : Bool) (marks : List Bool) → length marks ≡ slots
     → cond (ltb (position_or_len (same_mark want) marks) (length marks)) (Some (position_or_len (same_mark want) marks)) None ≡ slot_or_none (search_from slots want slots marks 0)
@@ -122,6 +134,12 @@ find_mark marks (suc k) i e = by_test (get_or marks i false) (λ t. rw t (sym (s
 
 -- ---- the listing
 
+-- the listing is what the marks leave of the slots
+pub listed_filter : (marks : List Bool) (k i : ℕ) → filter (λ s. get_or marks s false) (range_with_len i k) ≡ listed_from k marks i
+unfolding listed_from
+listed_filter marks zero i = refl
+listed_filter marks (suc k) i = by_test (get_or marks i false) (λ t. rw t (ap (λ (l : List ℕ). i ∷ l) (listed_filter marks k (i + 1)))) (λ t. rw t (listed_filter marks k (i + 1)))
+
 pub length_listed : (marks : List Bool) (k i : ℕ) → i + k ≡ length marks → length (listed_from k marks i) ≡ count_by (λ m. m) (drop i marks)
 unfolding listed_from
 length_listed marks zero i e = let none = drop_of_length-le marks {i = i} (omega arith) in rw none refl
@@ -131,17 +149,18 @@ length_listed marks (suc k) i e =
     let more = sum_by-cons (λ m. cond m 1 0) (get_or marks i false) (drop (i + 1) marks) in
     rw (next, more) (by_test (get_or marks i false) (λ t. rw t (omega arith)) (λ t. rw t (omega arith)))
 
--- the listing is what the marks leave of the slots
-pub listed_filter : (marks : List Bool) (k i : ℕ) → filter (λ s. get_or marks s false) (range_with_len i k) ≡ listed_from k marks i
-unfolding listed_from
-listed_filter marks zero i = refl
-listed_filter marks (suc k) i = by_test (get_or marks i false) (λ t. rw t (ap (λ (l : List ℕ). i ∷ l) (listed_filter marks k (i + 1)))) (λ t. rw t (listed_filter marks k (i + 1)))
-
 pub nth_listed : (marks : List Bool) (k i n : ℕ) → i + k ≤ slots → slice_get (listed_from k marks i) n ≡ slot_or_none (get_or (listed_from k marks i) n slots)
 unfolding listed_from
 nth_listed marks zero i n h = refl
 nth_listed marks (suc k) i zero h = by_test (get_or marks i false) (λ t. rw t (sym (slot_some i (omega arith)))) (λ t. rw t (nth_listed marks k (i + 1) zero (omega arith)))
 nth_listed marks (suc k) i (suc n) h = by_test (get_or marks i false) (λ t. rw t (nth_listed marks k (i + 1) n (omega arith))) (λ t. rw t (nth_listed marks k (i + 1) (suc n) (omega arith)))
+
+-- what it has is a slot's number, or `slots`
+pub listed_to : (marks : List Bool) (k i n : ℕ) → i + k ≤ slots → get_or (listed_from k marks i) n slots ≤ slots
+unfolding listed_from
+listed_to marks zero i n h = omega arith
+listed_to marks (suc k) i zero h = by_test (get_or marks i false) (λ t. rw t (omega arith)) (λ t. rw t (listed_to marks k (i + 1) zero (omega arith)))
+listed_to marks (suc k) i (suc n) h = by_test (get_or marks i false) (λ t. rw t (listed_to marks k (i + 1) n (omega arith))) (λ t. rw t (listed_to marks k (i + 1) (suc n) (omega arith)))
 
 -- ---- what an optional slot tells of the number
 
@@ -158,17 +177,8 @@ none_told i b e =
     true_not true q = refl
     true_not false q = q
 
--- a number that is at most that of the slots is its own optional slot
-pub again : (i : ℕ) → i ≤ slots → or_slots (slot_or_none i) ≡ i
-again i h =
-    by_test (ltb i slots) (λ l. rw (slot_some i (ltb-true i slots l)) refl)
-    (λ l. let g : slots ≤ i = ltb-false i slots l in rw (slot_none i g) (omega (arith, g, h)))
-
 pub first_empty-again : (marks : List Bool) → or_slots (slot_or_none (first_empty marks)) ≡ first_empty marks
-first_empty-again marks = again (first_empty marks) (search_bound slots false marks slots 0 (omega arith))
+first_empty-again marks = again (first_empty marks) (search_to false marks 0)
 
 pub at_or_after-again : (marks : List Bool) (place : ℕ) → or_slots (slot_or_none (at_or_after marks place)) ≡ at_or_after marks place
-unfolding search_from
-at_or_after-again marks place =
-    by_cases (dec_le place slots) (λ h. again (at_or_after marks place) (search_bound slots true marks (slots - place) place (omega (arith, h))))
-    (λ h. let z : slots - place ≡ 0 = omega arith in again (at_or_after marks place) (rw z (search_bound slots true marks 0 0 (omega arith) )))
+at_or_after-again marks place = again (at_or_after marks place) (search_to true marks place)

@@ -1,15 +1,20 @@
 -- The laws of the lent parts, of the fills, of the listing and of the end of a line.
 -- The idea: what a call leaves in the lent front has that front's length, so the front of the array afterwards is just that, and the rest is as it was.
 use mathlib.Core.Path.{◌≡◌, refl, sym, ap, ◌∙◌, subst}
-use mathlib.Core.Bool.{Bool, false}
-use mathlib.Core.List.{List, [], ◌∷◌, ◌++◌, append-nil}
+use mathlib.Core.Bool.{Bool, true, false}
+use mathlib.Core.List.{List, [], ◌∷◌, ◌++◌, append-nil, append_assoc}
 use Prim.Native.Nat.{ℕ, zero, suc, ◌+◌, ◌*◌, ◌/◌, ◌-◌, ◌≤◌, ◌<◌}
 use native.Mathlib.Numerals.{add-one}
 use native.Mathlib.Omega.{arith}
 use lib.ListN.{length, take, drop, get_or, set, length-append, length-drop, drop_of_length-le}
-use lib.Seq.{take_all, take_at, drop_at, drop-cons, set_at, append_snoc, length-take-le}
+use lib.Seq.{take_all, take_at, drop_at, drop-cons, set_at, append_snoc, length-take-le, drop-drop, sets-eq}
 use lib.Dec.{leb, eqb}
-use borrow.Author.Tests.{leb-true, leb-false, lt-ltb, le-ltb, eq-eqb, ne_eqb}
+use mir.Val.{bool_byte}
+use borrow.Rule.Slice.PartMut.{put_mid}
+use Rattle.std.proofs.Common.{◌==◌}
+use Rattle.std.specs.Option.{unwrap_or}
+use Rattle.std.specs.List.{find, range_with_len}
+use borrow.Author.Tests.{leb-true, leb-false, lt-ltb, le-ltb}
 use denote.Ref.{Bor}
 use Rattle.parts.specs.Parts.{View, Itself}
 use Rattle.parts.proofs.Laws.{by_test}
@@ -102,17 +107,22 @@ few (suc n) marks i =
     let h = few n marks (i + 1) in
     by_test (get_or marks i false) (λ e. rw e (omega arith)) (λ e. rw e (omega arith))
 
+flag_byte : (b : Bool) → bool_byte b ≡ flag_number b
+flag_byte true = refl
+flag_byte false = refl
+
 module _ (l : List ℕ) (k : ℕ) (e : Entry) where
-  pub entry_put : (v : ℕ) → k < length l / 3 → v ≡ flag_number e.running
-      → set (set (set l (3 * k) e.slot) (3 * k + 1) e.address) (3 * k + 2) v ≡ put_entry k e l
+  -- what the copy of the three bytes leaves
+  pub entry_put : (out : List ℕ) (v : ℕ) → k < length l / 3 → out ≡ e.slot ∷ e.address ∷ v ∷ [] → v ≡ bool_byte e.running
+      → put_mid (3 * k) (3 * k + 3 - 3 * k) l out ≡ put_entry k e l
   unfolding put_entry
-  entry_put v h q =
-      let second : 3 * k + 1 ≡ suc (3 * k) = omega arith in
-      let third : 3 * k + 2 ≡ suc (suc (3 * k)) = omega arith in
-      rw (lt-ltb k (length l / 3) h)
-      (ap (λ (n : ℕ). set (set (set l (3 * k) e.slot) n e.address) (3 * k + 2) v) second
-      ∙ ap (λ (n : ℕ). set (set (set l (3 * k) e.slot) (suc (3 * k)) e.address) n v) third
-      ∙ ap (set (set (set l (3 * k) e.slot) (suc (3 * k)) e.address) (suc (suc (3 * k)))) q)
+  entry_put out v h q f =
+      let new : List ℕ = e.slot ∷ e.address ∷ flag_number e.running ∷ [] in
+      let at : ℕ = 3 * k in
+      let three : 3 * k + 3 - 3 * k ≡ 3 = omega arith in
+      let flag : v ≡ flag_number e.running = f ∙ flag_byte e.running in
+      rw (three, q, flag, lt-ltb k (length l / 3) h)
+      (ap (λ (x : List ℕ). take at l ++ (new ++ x)) (drop-drop 3 at l) ∙ sym (append_assoc (take at l) new (drop (at + 3) l)) ∙ sym (sets-eq new l at (omega arith)))
 
   pub entry_out : length l / 3 ≤ k → l ≡ put_entry k e l
   unfolding put_entry
@@ -129,20 +139,13 @@ module _ (m : DpMaster) (from : List ℕ) (k : ℕ) (list : List ℕ) where
   unfolding put_entries
   entries_done h = ap (λ (x : List ℕ). put_entries m x k list) (drop_of_length-le from {i = k} h)
 
--- ---- the end of a line, one byte a turn
+-- ---- the end of a line
 
-module _ (s : List ℕ) (i : ℕ) where
-  pub newline_here : i < length s → get_or s i 0 ≡ 10 → newline_in (length s - i) i s ≡ i
-  unfolding newline_in
-  newline_here h e = let w : length s - i ≡ suc (length s - (i + 1)) = omega arith in rw w (rw (eq-eqb (get_or s i 0) 10 e) refl)
-
-  pub newline_on : i < length s → (get_or s i 0 ≡ 10 → ⊥) → newline_in (length s - i) i s ≡ newline_in (length s - (i + 1)) (i + 1) s
-  unfolding newline_in
-  newline_on h e = let w : length s - i ≡ suc (length s - (i + 1)) = omega arith in rw w (rw (ne_eqb (get_or s i 0) 10 e) refl)
-
-  pub newline_none : length s ≤ i → newline_in (length s - i) i s ≡ i
-  unfolding newline_in
-  newline_none h = let w : length s - i ≡ 0 = omega arith in rw w refl
+-- the library's search for a newline, or the end
+pub newline_found : (s : List ℕ) (n i d : ℕ) → d ≡ i + n → unwrap_or (find (λ k. get_or s k 0 == 10) (range_with_len i n)) d ≡ newline_in n i s
+unfolding newline_in
+newline_found s zero i d e = omega arith
+newline_found s (suc n) i d e = by_test (eqb (get_or s i 0) 10) (λ t. rw t refl) (λ t. rw t (newline_found s n (i + 1) d (omega arith)))
 
 -- it lies where it was looked for
 pub newline_from : (s : List ℕ) (n i : ℕ) → i ≤ newline_in n i s

@@ -1,7 +1,6 @@
 // The arrays of a driver: what is lent of them, what P and F fill in, and the listing of H.
 ghost use Rattle.std.specs.Prelude.{◌≡◌};
 ghost use Rattle.parts.specs.Parts.{Itself};
-ghost use Rattle.script_fields.specs.Write.{flag_number};
 ghost use Rattle.script_driver.specs.Arrays.{short_of, lent_view, filled, entry_byte, filled_entries, put_entry, Entered, sums_of};
 
 use master::unit::DpMaster;
@@ -13,66 +12,44 @@ use script_fields::write;
 pub fn front(n: u16, len: usize) -> usize
     ensures { result ≡ short_of n len }
 {
-    let want = parts::widen16(n);
-    if len < want {
-        return len;
-    }
-    want
+    usize::from(n).min(len)
 }
 
 // The first so many bytes, themselves and no copy of them.
 pub fn lent(src: &[u8], n: u16) -> &[u8]
     ensures { Itself (lent_view n src.now) src.entry result }
 {
-    let k = front(n, src.len());
-    &src[..k]
+    &src[..front(n, src.len())]
 }
 
 // All bytes become `b`.
 pub fn fill(dst: &mut [u8], b: u8)
     ensures { dst.new ≡ filled b dst.old }
 {
-    let mut i = 0;
-    while i < dst.len() {
-        dst[i] = b;
-        i += 1;
-    }
+    dst.fill(b);
 }
 
 // The byte at an index of a list whose entries are (b, b, b mod 2).
 fn entry_byte(b: u8, i: usize) -> u8
     ensures { result ≡ entry_byte b i }
 {
-    if i % 3 == 2 {
-        return b % 2;
-    }
-    b
+    if i % 3 == 2 { b % 2 } else { b }
 }
 
 // Each entry becomes (b, b, b mod 2).
 pub fn fill_list(list: &mut [u8], b: u8)
     ensures { list.new ≡ filled_entries b list.old }
 {
-    let mut i = 0;
-    while i < list.len() {
-        list[i] = entry_byte(b, i);
-        i += 1;
+    for (i, byte) in list.iter_mut().enumerate() {
+        *byte = entry_byte(b, i);
     }
-}
-
-fn flag(b: bool) -> u8
-    ensures { result ≡ flag_number b }
-{
-    if b { 1 } else { 0 }
 }
 
 fn put_entry(list: &mut [u8], k: usize, e: Entry)
     ensures { list.new ≡ put_entry k e list.old }
 {
     if k < list.len() / 3 {
-        list[3 * k] = e.slot;
-        list[3 * k + 1] = e.address;
-        list[3 * k + 2] = flag(e.running);
+        list[3 * k..3 * k + 3].copy_from_slice(&[e.slot, e.address, u8::from(e.running)]);
     }
 }
 
@@ -81,13 +58,10 @@ pub fn put_entries(unit: DpMaster, list: &mut [u8]) -> usize
     ensures { Entered unit list.old list.new result }
 {
     let count = access::listing::count(unit);
-    let mut k = 0;
-    while k < count {
-        let e = access::listing::entry(unit, k);
-        put_entry(list, k, e);
-        k += 1;
+    for k in 0..count {
+        put_entry(list, k, access::listing::entry(unit, k));
     }
-    3 * k
+    3 * count
 }
 
 // The sums of the four whole pool arrays.

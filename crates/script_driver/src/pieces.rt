@@ -15,31 +15,22 @@ pub struct Partial {
 pub fn line_end(s: &[u8], from: usize) -> usize
     ensures { result ≡ line_end from s.now }
 {
-    let mut i = from;
-    while i < s.len() {
-        if s[i] == b'\n' {
-            return i;
-        }
-        i += 1;
-    }
-    i
+    (from..s.len())
+        .find(|&i| s[i] == b'\n')
+        .unwrap_or(from.max(s.len()))
 }
 
 // A piece of a line goes behind what came of it; a piece that does not fit makes the line too long.
 pub fn append(p: Partial, piece: &[u8], line: &mut [u8]) -> Partial
     ensures { Appended p piece.now line.old line.new result }
 {
-    let n = piece.len();
-    let at = p.filled;
-    if parts::copy_at(line, at, n, piece) {
-        return Partial {
-            filled: at + n,
-            long: p.long,
-        };
-    }
-    Partial {
-        filled: at,
-        long: true,
+    if parts::copy_at(line, p.filled, piece.len(), piece) {
+        Partial {
+            filled: p.filled + piece.len(),
+            ..p
+        }
+    } else {
+        Partial { long: true, ..p }
     }
 }
 
@@ -47,8 +38,5 @@ pub fn append(p: Partial, piece: &[u8], line: &mut [u8]) -> Partial
 pub fn unfinished(p: Partial) -> bool
     ensures { result ≡ is_unfinished p }
 {
-    if p.long {
-        return true;
-    }
-    0 < p.filled
+    p.long || 0 < p.filled
 }

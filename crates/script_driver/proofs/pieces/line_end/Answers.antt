@@ -1,17 +1,19 @@
--- `line_end` meets its contract. The loop's invariant: what is left to search ends where the whole search ends.
-use mathlib.Core.Path.{refl, sym, ◌∙◌}
+-- `line_end` meets its contract: the library's search goes over the bytes as the definition does.
+use Rattle.std.proofs.Common.{ℕ, ◌-◌, ◌==◌, Option, rules, refl, sym, ap, ◌∙◌, get_or, length}
+use Rattle.std.specs.Option.{unwrap_or}
+use Rattle.std.proofs.lemmas.Iterator.{YieldsList-from_range}
+use Rattle.std.proofs.lemmas.Iterator.Search.{find_from_yields_List}
+use Rattle.std.proofs.lemmas.Iterator.Adapters.{option_map_id}
+use borrow.Author.Tests.{tests}
 use native.Mathlib.Omega.{arith}
-use Rattle.script_driver.proofs.Laws.{newline_here, newline_on, newline_none}
+use Rattle.script_driver.proofs.Laws.{newline_found}
 use Rattle.script_driver.proofs.pieces.line_end.Goals as goal
 
-pub loop-i-init : goal.loop-i-init
-loop-i-init c = refl
-
-pub returns-then-s-i-eq10 : goal.returns-then-s-i-eq10
-returns-then-s-i-eq10 c = sym (newline_here c.args.s.now c.loop-i.i (omega arith) c.if-s-i-eq10.true) ∙ c.loop-i.invariant
-
-pub loop-i-preserved : goal.loop-i-preserved
-loop-i-preserved c = sym (newline_on c.args.s.now c.loop-i.i (omega arith) c.if-s-i-eq10.false) ∙ c.loop-i.invariant
-
 pub returns : goal.returns
-returns c = sym (newline_none c.args.s.now c.loop-i.i (omega arith)) ∙ c.loop-i.invariant
+returns c = let s = c.args.s.now in
+    let from = c.args.from in
+    let n = length s - from in
+    let found =
+    sym (option_map_id c.find.result)
+    ∙ find_from_yields_List (λ (i : ℕ). get_or s i 0 == 10) _ _ c.find.result c.find.ensures.ran (YieldsList-from_range from (length s) n refl refl) (λ x b q k. search (rules, tests)) in
+    c.unwrap_or.ensures ∙ ap (λ (o : Option ℕ). unwrap_or o c.max.result) found ∙ newline_found s n from c.max.result (omega (arith, c.max.ensures))
