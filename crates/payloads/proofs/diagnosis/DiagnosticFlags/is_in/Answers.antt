@@ -1,6 +1,6 @@
--- `is_in` meets its contract, by the flag's number.
-use mathlib.Core.Path.{refl}
+-- `is_in` meets its contract: the mask of a weight is the weight's bit.
+use Rattle.payloads.proofs.Facts.{masked}
 use Rattle.payloads.proofs.diagnosis.DiagnosticFlags.is_in.Goals as goal
 
 pub returns : goal.returns
-returns c = rw c.number.ensures.0 refl
+returns c = rw c.from.ensures (masked c.args.self c.args.flags)
