@@ -8,7 +8,7 @@ use fdl::telegram::Telegram;
 // The last diagnosis that was taken, without its extended part.
 // Its numbers and `held`, and no `Option`, since the record has C's layout and every value of it is accepted.
 #[repr(C)]
-#[derive(Clone, Copy)]
+#[derive(Clone, Copy, Default)]
 pub struct DiagnosticsInfo {
     // Bytes 0 and 1 of the reply, low byte first, with 0x0400 removed; 0 before a diagnosis is held.
     pub flags: u16,
@@ -61,6 +61,7 @@ impl From<DiagnosticFlags> for u16 {
 
 impl DiagnosticFlags {
     // Whether it is set.
+    #[tactic(auto, using(crate::proofs::Facts::masked))]
     pub fn is_in(self, flags: u16) -> bool
         ensures { result ≡ flag (flag_weight self) flags }
     {
@@ -83,6 +84,7 @@ pub fn is_taken(telegram: Telegram, len: usize) -> bool
 }
 
 // Flags low byte first, with 0x0400 removed; the master; the ident, high byte first. A byte that is not there reads as 0.
+#[tactic(auto, using(crate::proofs::Facts::unmasked), unfolding(crate::specs::Diagnosis::diagnosis_of))]
 pub fn read_diagnosis(p: &[u8]) -> DiagnosticsInfo
     ensures { result ≡ diagnosis_of p.now }
 {

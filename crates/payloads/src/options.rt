@@ -3,7 +3,7 @@
 // The options of a balance; absent user parameters or configuration have the length 0 and no mark.
 // A mark and a length, and no `Option`, since the record has C's layout and any of the two beside each other is accepted.
 #[repr(C)]
-#[derive(Clone, Copy)]
+#[derive(Clone, Copy, Default)]
 pub struct PeripheralOptions {
     // Ident number by the GSD file, any of 16 bits; parameter bytes 4 and 5, high byte first.
     pub ident_number: u16,

@@ -14,6 +14,7 @@ fn bit_if(on: bool, v: u8) -> u8
 }
 
 // The seven bytes that every parameter telegram begins with.
+#[tactic(auto, unfolding(crate::specs::Payload::param_head))]
 fn param_head(u: Parameters, o: PeripheralOptions) -> [u8; 7]
     ensures { result ≡ param_head u o }
 {
@@ -67,6 +68,7 @@ pub fn write_zeros(count: usize, buf: &mut [u8]) -> usize
 }
 
 // The payload of the global control, two bytes: 0x02 in Clear, 0x00 in Operate; then 0x00, no group.
+#[tactic(auto, unfolding(crate::specs::Payload::control_payload))]
 pub fn write_control(clear: bool, buf: &mut [u8]) -> usize
     ensures { Written (control_payload clear) buf.old buf.new result }
 {

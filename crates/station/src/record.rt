@@ -8,7 +8,7 @@ use payloads::diagnosis::DiagnosticsInfo;
 
 // A balance as the master sees it; state and frame bit are numbers, since the record has C's layout and every number is accepted. DECISIONS 20
 #[repr(C)]
-#[derive(Clone, Copy)]
+#[derive(Clone, Copy, Default)]
 pub struct Station {
     // Station address, 0 to 125 and not the master's; 0 in an empty slot.
     pub address: u8,
