@@ -1,7 +1,7 @@
--- What the functions that write into lent bytes leave, said of the definitions; how long a diagnosis is, and what a mask does to its flags.
+-- What the functions that write into lent bytes leave, said of the definitions; and what a mask does to the flags of a diagnosis.
 -- The idea: `put_in` answers what fits by `room_for`, so each fact is one case of that test; a flag's weight is a power of 2, so a mask is its bit.
 use mathlib.Core.Path.{◌≡◌, refl, sym, ap, ◌∙◌, subst}
-use mathlib.Core.Bool.{Bool, true, false, not, ◌&&◌, false≢true}
+use mathlib.Core.Bool.{Bool, true, false, not}
 use mathlib.Core.List.{List, ◌++◌}
 use Prim.Native.Nat.{ℕ, zero, suc, ◌+◌, ◌-◌, ◌*◌, ◌/◌, ◌%◌, ◌^◌, ◌≤◌, ◌<◌}
 use native.Mathlib.Omega.{arith}
@@ -9,14 +9,11 @@ use lib.ListN.{length, take, drop, length-append}
 use lib.Dec.{leb, eqb}
 use borrow.Author.Tests.{lt-leb, leb-true, leb-false}
 use Rattle.parts.specs.Parts.{inside, room_for, put_in, Put}
-use Rattle.parts.proofs.Laws.{and_right, room-own, put_kept, inside_yes, inside-leb, length-put, lent_put, put-append}
+use Rattle.parts.proofs.Laws.{room-own, put_kept, inside_yes, inside-leb, length-put, lent_put, put-append}
 use Rattle.fdl.specs.declared.parameters.Parameters.{Parameters}
 use Rattle.payloads.specs.declared.options.PeripheralOptions.{PeripheralOptions}
 use Rattle.payloads.specs.Payload.{param_head, Written}
-use Rattle.fdl.specs.Sap.{sap_number}
-use Rattle.fdl.specs.declared.telegram.Telegram.{Telegram}
-use Rattle.fdl.specs.declared.telegram.Telegram.TheVariants.{ShortConfirmation, Data, Token, Request}
-use Rattle.payloads.specs.Diagnosis.{taken, flag, flag_weight, without}
+use Rattle.payloads.specs.Diagnosis.{flag, flag_weight, without}
 use Rattle.payloads.specs.declared.diagnosis.DiagnosticFlags.{DiagnosticFlags}
 use Rattle.payloads.specs.declared.diagnosis.DiagnosticFlags.TheVariants.{StationNotReady, ConfigurationFault, ExtDiag, ParameterFault, ParameterRequired, PermanentBit}
 use Rattle.std.specs.Int.{bit_at}
@@ -40,9 +37,6 @@ module _ (n : ℕ) (payload buf out : List ℕ) (fitted : Bool) (e : n ≡ lengt
 
   pub unwritten : fitted ≡ false → Written payload buf out 0
   unwritten t = record { len = rw (sym own ∙ t) refl; bytes = bytes }
-
-pub written_as : (a b buf out : List ℕ) (r : ℕ) → a ≡ b → Written a buf out r → Written b buf out r
-written_as a b buf out r e w = subst (λ (l : List ℕ). Written l buf out r) e w
 
 module _ (payload buf : List ℕ) where
   unwritten_short : length buf < length payload → Written payload buf buf 0
@@ -78,14 +72,6 @@ module _ (u : Parameters) (o : PeripheralOptions) (user buf : List ℕ) where
 
   pub unbuilt : leb (7 + length user) (length buf) ≡ false → Written (param_head u o ++ user) buf buf 0
   unbuilt t = unwritten_short (param_head u o ++ user) buf (omega (arith, payload-length, leb-false (7 + length user) (length buf) t))
-
--- ---- a diagnosis that is taken has six bytes
-
-pub taken_six : (t : Telegram) (n : ℕ) → taken t n ≡ true → 6 ≤ n
-taken_six ShortConfirmation n e = absurd (false≢true e)
-taken_six (Data dsap ssap status) n e = leb-true 6 n (and_right (eqb (sap_number dsap) 62 && eqb (sap_number ssap) 60) (leb 6 n) e)
-taken_six Token n e = absurd (false≢true e)
-taken_six Request n e = absurd (false≢true e)
 
 -- ---- a flag is read by a mask, and removed by one
 
