@@ -6,7 +6,8 @@ ghost use Rattle.payloads.specs.Diagnosis.{no_diagnosis, taken, flag, flag_weigh
 use fdl::telegram::Telegram;
 
 // The last diagnosis that was taken, without its extended part.
-// Its numbers and `held`, and no `Option`, since the record has C's layout and every value of it is accepted.
+// `held` stands beside the numbers, and is no `Option`, since the record has C's layout and every value of it is accepted.
+// Its default is what an empty slot holds, zeros; `none` is what a balance that holds none answers.
 #[repr(C)]
 #[derive(Clone, Copy, Default)]
 pub struct DiagnosticsInfo {

@@ -1,7 +1,7 @@
 // How a peripheral is to be set up.
 
 // The options of a balance; absent user parameters or configuration have the length 0 and no mark.
-// A mark and a length, and no `Option`, since the record has C's layout and any of the two beside each other is accepted.
+// Each mark stands beside its length, and is no `Option`, since the record has C's layout and any pair of the two is accepted.
 #[repr(C)]
 #[derive(Clone, Copy, Default)]
 pub struct PeripheralOptions {
