@@ -3,10 +3,10 @@
 use mathlib.Core.Path.{◌≡◌}
 use Rattle.coincide.specs.Coincide.{Coincide}
 use Rattle.coincide.proofs.Law.{same}
-use Rattle.fdl.proofs.consts.Sap.number.Kinds as K·consts-Sap-number
-use Rattle.fdl.proofs.consts.Sap.number.Reads as R·consts-Sap-number
-use Rattle.fdl.proofs.consts.Sap.of.Kinds as K·consts-Sap-of
-use Rattle.fdl.proofs.consts.Sap.of.Reads as R·consts-Sap-of
+use Rattle.fdl.proofs.consts.sap_number.Kinds as K·consts-sap-number
+use Rattle.fdl.proofs.consts.sap_number.Reads as R·consts-sap-number
+use Rattle.fdl.proofs.consts.sap_of.Kinds as K·consts-sap-of
+use Rattle.fdl.proofs.consts.sap_of.Reads as R·consts-sap-of
 use Rattle.fdl.proofs.consts.Service.sap.Kinds as K·consts-Service-sap
 use Rattle.fdl.proofs.consts.Service.sap.Reads as R·consts-Service-sap
 use Rattle.fdl.proofs.parameters.Parameters.refusal.Kinds as K·parameters-Parameters-refusal
@@ -21,22 +21,22 @@ use Rattle.fdl.proofs.telegram.FrameCountBit.fcb.Kinds as K·telegram-FrameCount
 use Rattle.fdl.proofs.telegram.FrameCountBit.fcb.Reads as R·telegram-FrameCountBit-fcb
 use Rattle.fdl.proofs.telegram.FrameCountBit.fcv.Kinds as K·telegram-FrameCountBit-fcv
 use Rattle.fdl.proofs.telegram.FrameCountBit.fcv.Reads as R·telegram-FrameCountBit-fcv
-use Rattle.fdl.proofs.telegram.FrameCountBit.number.Kinds as K·telegram-FrameCountBit-number
-use Rattle.fdl.proofs.telegram.FrameCountBit.number.Reads as R·telegram-FrameCountBit-number
-use Rattle.fdl.proofs.telegram.FrameCountBit.of.Kinds as K·telegram-FrameCountBit-of
-use Rattle.fdl.proofs.telegram.FrameCountBit.of.Reads as R·telegram-FrameCountBit-of
-use Rattle.fdl.proofs.telegram.RequestType.number.Kinds as K·telegram-RequestType-number
-use Rattle.fdl.proofs.telegram.RequestType.number.Reads as R·telegram-RequestType-number
+use Rattle.fdl.proofs.telegram.U8FromFrameCountBit.from.Kinds as K·telegram-U8FromFrameCountBit-from
+use Rattle.fdl.proofs.telegram.U8FromFrameCountBit.from.Reads as R·telegram-U8FromFrameCountBit-from
+use Rattle.fdl.proofs.telegram.FrameCountBitFromU8.from.Kinds as K·telegram-FrameCountBitFromU8-from
+use Rattle.fdl.proofs.telegram.FrameCountBitFromU8.from.Reads as R·telegram-FrameCountBitFromU8-from
+use Rattle.fdl.proofs.telegram.U8FromRequestType.from.Kinds as K·telegram-U8FromRequestType-from
+use Rattle.fdl.proofs.telegram.U8FromRequestType.from.Reads as R·telegram-U8FromRequestType-from
 use Rattle.fdl.proofs.telegram.Telegram.is_usable.Kinds as K·telegram-Telegram-is-usable
 use Rattle.fdl.proofs.telegram.Telegram.is_usable.Reads as R·telegram-Telegram-is-usable
 use Rattle.fdl.proofs.telegram.Telegram.is_short_confirmation.Kinds as K·telegram-Telegram-is-short-confirmation
 use Rattle.fdl.proofs.telegram.Telegram.is_short_confirmation.Reads as R·telegram-Telegram-is-short-confirmation
 
-pub consts-Sap-number : Coincide 0 K·consts-Sap-number.ps K·consts-Sap-number.r R·consts-Sap-number.Learnt (λ κs z y e f. z ≡ y)
-consts-Sap-number κs a z y e f p q = same p q
+pub consts-sap_number : Coincide 0 K·consts-sap-number.ps K·consts-sap-number.r R·consts-sap-number.Learnt (λ κs z y e f. z ≡ y)
+consts-sap_number κs a z y e f p q = same p q
 
-pub consts-Sap-of : Coincide 0 K·consts-Sap-of.ps K·consts-Sap-of.r R·consts-Sap-of.Learnt (λ κs z y e f. z ≡ y)
-consts-Sap-of κs a z y e f p q = same p q
+pub consts-sap_of : Coincide 0 K·consts-sap-of.ps K·consts-sap-of.r R·consts-sap-of.Learnt (λ κs z y e f. z ≡ y)
+consts-sap_of κs a z y e f p q = same p q
 
 pub consts-Service-sap : Coincide 0 K·consts-Service-sap.ps K·consts-Service-sap.r R·consts-Service-sap.Learnt (λ κs z y e f. z ≡ y)
 consts-Service-sap κs a z y e f p q = same p q
@@ -59,14 +59,14 @@ telegram-FrameCountBit-fcb κs a z y e f p q = same p q
 pub telegram-FrameCountBit-fcv : Coincide 0 K·telegram-FrameCountBit-fcv.ps K·telegram-FrameCountBit-fcv.r R·telegram-FrameCountBit-fcv.Learnt (λ κs z y e f. z ≡ y)
 telegram-FrameCountBit-fcv κs a z y e f p q = same p q
 
-pub telegram-FrameCountBit-number : Coincide 0 K·telegram-FrameCountBit-number.ps K·telegram-FrameCountBit-number.r R·telegram-FrameCountBit-number.Learnt (λ κs z y e f. z ≡ y)
-telegram-FrameCountBit-number κs a z y e f p q = same p q
+pub telegram-U8FromFrameCountBit-from : Coincide 0 K·telegram-U8FromFrameCountBit-from.ps K·telegram-U8FromFrameCountBit-from.r R·telegram-U8FromFrameCountBit-from.Learnt (λ κs z y e f. z ≡ y)
+telegram-U8FromFrameCountBit-from κs a z y e f p q = same p q
 
-pub telegram-FrameCountBit-of : Coincide 0 K·telegram-FrameCountBit-of.ps K·telegram-FrameCountBit-of.r R·telegram-FrameCountBit-of.Learnt (λ κs z y e f. z ≡ y)
-telegram-FrameCountBit-of κs a z y e f p q = same p q
+pub telegram-FrameCountBitFromU8-from : Coincide 0 K·telegram-FrameCountBitFromU8-from.ps K·telegram-FrameCountBitFromU8-from.r R·telegram-FrameCountBitFromU8-from.Learnt (λ κs z y e f. z ≡ y)
+telegram-FrameCountBitFromU8-from κs a z y e f p q = same p q
 
-pub telegram-RequestType-number : Coincide 0 K·telegram-RequestType-number.ps K·telegram-RequestType-number.r R·telegram-RequestType-number.Learnt (λ κs z y e f. z ≡ y)
-telegram-RequestType-number κs a z y e f p q = same p q
+pub telegram-U8FromRequestType-from : Coincide 0 K·telegram-U8FromRequestType-from.ps K·telegram-U8FromRequestType-from.r R·telegram-U8FromRequestType-from.Learnt (λ κs z y e f. z ≡ y)
+telegram-U8FromRequestType-from κs a z y e f p q = same p q
 
 pub telegram-Telegram-is_usable : Coincide 0 K·telegram-Telegram-is-usable.ps K·telegram-Telegram-is-usable.r R·telegram-Telegram-is-usable.Learnt (λ κs z y e f. z ≡ y)
 telegram-Telegram-is_usable κs a z y e f p q = same p q

@@ -11,10 +11,10 @@ use Rattle.payloads.proofs.diagnosis.read_diagnosis.Kinds as K·diagnosis-read-d
 use Rattle.payloads.proofs.diagnosis.read_diagnosis.Reads as R·diagnosis-read-diagnosis
 use Rattle.payloads.proofs.request.control_header.Kinds as K·request-control-header
 use Rattle.payloads.proofs.request.control_header.Reads as R·request-control-header
-use Rattle.payloads.proofs.request.Request.number.Kinds as K·request-Request-number
-use Rattle.payloads.proofs.request.Request.number.Reads as R·request-Request-number
-use Rattle.payloads.proofs.request.Request.of.Kinds as K·request-Request-of
-use Rattle.payloads.proofs.request.Request.of.Reads as R·request-Request-of
+use Rattle.payloads.proofs.request.U8FromRequest.from.Kinds as K·request-U8FromRequest-from
+use Rattle.payloads.proofs.request.U8FromRequest.from.Reads as R·request-U8FromRequest-from
+use Rattle.payloads.proofs.request.RequestFromU8.from.Kinds as K·request-RequestFromU8-from
+use Rattle.payloads.proofs.request.RequestFromU8.from.Reads as R·request-RequestFromU8-from
 use Rattle.payloads.proofs.request.Request.is_data.Kinds as K·request-Request-is-data
 use Rattle.payloads.proofs.request.Request.is_data.Reads as R·request-Request-is-data
 use Rattle.payloads.proofs.request.Request.header.Kinds as K·request-Request-header
@@ -27,8 +27,8 @@ use Rattle.payloads.proofs.write.write_zeros.Kinds as K·write-write-zeros
 use Rattle.payloads.proofs.write.write_zeros.Reads as R·write-write-zeros
 use Rattle.payloads.proofs.write.write_control.Kinds as K·write-write-control
 use Rattle.payloads.proofs.write.write_control.Reads as R·write-write-control
-use Rattle.payloads.proofs.diagnosis.DiagnosticFlags.number.Kinds as K·diagnosis-DiagnosticFlags-number
-use Rattle.payloads.proofs.diagnosis.DiagnosticFlags.number.Reads as R·diagnosis-DiagnosticFlags-number
+use Rattle.payloads.proofs.diagnosis.U16FromDiagnosticFlags.from.Kinds as K·diagnosis-U16FromDiagnosticFlags-from
+use Rattle.payloads.proofs.diagnosis.U16FromDiagnosticFlags.from.Reads as R·diagnosis-U16FromDiagnosticFlags-from
 use Rattle.payloads.proofs.diagnosis.DiagnosticFlags.is_in.Kinds as K·diagnosis-DiagnosticFlags-is-in
 use Rattle.payloads.proofs.diagnosis.DiagnosticFlags.is_in.Reads as R·diagnosis-DiagnosticFlags-is-in
 use Rattle.payloads.proofs.diagnosis.store_extended.Kinds as K·diagnosis-store-extended
@@ -46,11 +46,11 @@ diagnosis-read_diagnosis κs a z y e f p q = same p q
 pub request-control_header : Coincide 0 K·request-control-header.ps K·request-control-header.r R·request-control-header.Learnt (λ κs z y e f. z ≡ y)
 request-control_header κs a z y e f p q = same p q
 
-pub request-Request-number : Coincide 0 K·request-Request-number.ps K·request-Request-number.r R·request-Request-number.Learnt (λ κs z y e f. z ≡ y)
-request-Request-number κs a z y e f p q = same p q
+pub request-U8FromRequest-from : Coincide 0 K·request-U8FromRequest-from.ps K·request-U8FromRequest-from.r R·request-U8FromRequest-from.Learnt (λ κs z y e f. z ≡ y)
+request-U8FromRequest-from κs a z y e f p q = same p q
 
-pub request-Request-of : Coincide 0 K·request-Request-of.ps K·request-Request-of.r R·request-Request-of.Learnt (λ κs z y e f. z ≡ y)
-request-Request-of κs a z y e f p q = same p q
+pub request-RequestFromU8-from : Coincide 0 K·request-RequestFromU8-from.ps K·request-RequestFromU8-from.r R·request-RequestFromU8-from.Learnt (λ κs z y e f. z ≡ y)
+request-RequestFromU8-from κs a z y e f p q = same p q
 
 pub request-Request-is_data : Coincide 0 K·request-Request-is-data.ps K·request-Request-is-data.r R·request-Request-is-data.Learnt (λ κs z y e f. z ≡ y)
 request-Request-is_data κs a z y e f p q = same p q
@@ -70,8 +70,8 @@ write-write_zeros κs a z y e f p q = (same p.len q.len, same p.bytes q.bytes)
 pub write-write_control : Coincide 1 K·write-write-control.ps K·write-write-control.r R·write-write-control.Learnt (λ κs z y e f. (z ≡ y) × (e.1.0.now ≡ f.1.0.now))
 write-write_control κs a z y e f p q = (same p.len q.len, same p.bytes q.bytes)
 
-pub diagnosis-DiagnosticFlags-number : Coincide 0 K·diagnosis-DiagnosticFlags-number.ps K·diagnosis-DiagnosticFlags-number.r R·diagnosis-DiagnosticFlags-number.Learnt (λ κs z y e f. z ≡ y)
-diagnosis-DiagnosticFlags-number κs a z y e f p q = same p.0 q.0
+pub diagnosis-U16FromDiagnosticFlags-from : Coincide 0 K·diagnosis-U16FromDiagnosticFlags-from.ps K·diagnosis-U16FromDiagnosticFlags-from.r R·diagnosis-U16FromDiagnosticFlags-from.Learnt (λ κs z y e f. z ≡ y)
+diagnosis-U16FromDiagnosticFlags-from κs a z y e f p q = same p q
 
 pub diagnosis-DiagnosticFlags-is_in : Coincide 0 K·diagnosis-DiagnosticFlags-is-in.ps K·diagnosis-DiagnosticFlags-is-in.r R·diagnosis-DiagnosticFlags-is-in.Learnt (λ κs z y e f. z ≡ y)
 diagnosis-DiagnosticFlags-is_in κs a z y e f p q = same p q

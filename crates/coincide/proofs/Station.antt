@@ -17,12 +17,12 @@ use Rattle.station.proofs.record.Station.last_diagnostics.Kinds as K·record-Sta
 use Rattle.station.proofs.record.Station.last_diagnostics.Reads as R·record-Station-last-diagnostics
 use Rattle.station.proofs.record.Station.stored_part.Kinds as K·record-Station-stored-part
 use Rattle.station.proofs.record.Station.stored_part.Reads as R·record-Station-stored-part
-use Rattle.station.proofs.state.PeripheralState.number.Kinds as K·state-PeripheralState-number
-use Rattle.station.proofs.state.PeripheralState.number.Reads as R·state-PeripheralState-number
-use Rattle.station.proofs.state.PeripheralState.of.Kinds as K·state-PeripheralState-of
-use Rattle.station.proofs.state.PeripheralState.of.Reads as R·state-PeripheralState-of
-use Rattle.station.proofs.state.PeripheralEvent.number.Kinds as K·state-PeripheralEvent-number
-use Rattle.station.proofs.state.PeripheralEvent.number.Reads as R·state-PeripheralEvent-number
+use Rattle.station.proofs.state.U8FromPeripheralState.from.Kinds as K·state-U8FromPeripheralState-from
+use Rattle.station.proofs.state.U8FromPeripheralState.from.Reads as R·state-U8FromPeripheralState-from
+use Rattle.station.proofs.state.PeripheralStateFromU8.from.Kinds as K·state-PeripheralStateFromU8-from
+use Rattle.station.proofs.state.PeripheralStateFromU8.from.Reads as R·state-PeripheralStateFromU8-from
+use Rattle.station.proofs.state.U8FromPeripheralEvent.from.Kinds as K·state-U8FromPeripheralEvent-from
+use Rattle.station.proofs.state.U8FromPeripheralEvent.from.Reads as R·state-U8FromPeripheralEvent-from
 use Rattle.station.proofs.record.Station.visited.Kinds as K·record-Station-visited
 use Rattle.station.proofs.record.Station.visited.Reads as R·record-Station-visited
 use Rattle.station.proofs.state.PeripheralState.is_live.Kinds as K·state-PeripheralState-is-live
@@ -63,14 +63,14 @@ record-Station-last_diagnostics κs a z y e f p q = same p q
 pub record-Station-stored_part : Coincide 0 K·record-Station-stored-part.ps K·record-Station-stored-part.r R·record-Station-stored-part.Learnt (λ κs z y e f. z ≡ y)
 record-Station-stored_part κs a z y e f p q = same p q
 
-pub state-PeripheralState-number : Coincide 0 K·state-PeripheralState-number.ps K·state-PeripheralState-number.r R·state-PeripheralState-number.Learnt (λ κs z y e f. z ≡ y)
-state-PeripheralState-number κs a z y e f p q = same p q
+pub state-U8FromPeripheralState-from : Coincide 0 K·state-U8FromPeripheralState-from.ps K·state-U8FromPeripheralState-from.r R·state-U8FromPeripheralState-from.Learnt (λ κs z y e f. z ≡ y)
+state-U8FromPeripheralState-from κs a z y e f p q = same p q
 
-pub state-PeripheralState-of : Coincide 0 K·state-PeripheralState-of.ps K·state-PeripheralState-of.r R·state-PeripheralState-of.Learnt (λ κs z y e f. z ≡ y)
-state-PeripheralState-of κs a z y e f p q = same p q
+pub state-PeripheralStateFromU8-from : Coincide 0 K·state-PeripheralStateFromU8-from.ps K·state-PeripheralStateFromU8-from.r R·state-PeripheralStateFromU8-from.Learnt (λ κs z y e f. z ≡ y)
+state-PeripheralStateFromU8-from κs a z y e f p q = same p q
 
-pub state-PeripheralEvent-number : Coincide 0 K·state-PeripheralEvent-number.ps K·state-PeripheralEvent-number.r R·state-PeripheralEvent-number.Learnt (λ κs z y e f. z ≡ y)
-state-PeripheralEvent-number κs a z y e f p q = same p q
+pub state-U8FromPeripheralEvent-from : Coincide 0 K·state-U8FromPeripheralEvent-from.ps K·state-U8FromPeripheralEvent-from.r R·state-U8FromPeripheralEvent-from.Learnt (λ κs z y e f. z ≡ y)
+state-U8FromPeripheralEvent-from κs a z y e f p q = same p q
 
 pub record-Station-visited : Coincide 0 K·record-Station-visited.ps K·record-Station-visited.r R·record-Station-visited.Learnt (λ κs z y e f. z ≡ y)
 record-Station-visited κs a z y e f p q = same p q

@@ -1,18 +1,10 @@
 // Service access points, by the names of the Rust for those that are used.
+// The access point at one end of a telegram (DSAP or SSAP) is `Some` of its number, 0 to 254, or `None`, as in data exchange.
 ghost use Rattle.std.specs.Prelude.{◌≡◌};
 ghost use Rattle.fdl.specs.Sap.{sap_number, sap_of, service_sap};
 
-// The service access point at one end of a telegram (DSAP or SSAP), or none.
-#[derive(Clone, Copy)]
-pub enum Sap {
-    // No access point, as in data exchange; its number is 255.
-    Absent,
-    // The access point of this number; one that `of` made is 0 to 254.
-    At(u8),
-}
-
 // The services at the master's end and at the slave's end of a telegram; each has its access point.
-#[derive(Clone, Copy)]
+#[derive(Clone, Copy, PartialEq, Eq)]
 pub enum Service {
     // The master's end of data exchange (Data_Exchange): none.
     MasterDataExchange,
@@ -30,41 +22,34 @@ pub enum Service {
     SlaveChkCfg,
 }
 
-impl Sap {
-    // The number that stands for it, 255 when it is absent.
-    pub fn number(self) -> u8
-        ensures { result ≡ sap_number self }
-    {
-        match self {
-            Sap::Absent => 255,
-            Sap::At(n) => n,
-        }
-    }
+// The number that stands for an access point, 255 for none.
+pub fn sap_number(sap: Option<u8>) -> u8
+    ensures { result ≡ sap_number sap }
+{
+    sap.unwrap_or(255)
+}
 
-    // The access point of a number; 255 is none.
-    pub fn of(n: u8) -> Sap
-        ensures { result ≡ sap_of n }
-    {
-        match n {
-            255 => Sap::Absent,
-            _ => Sap::At(n),
-        }
+// The access point of a number; 255 is none.
+pub fn sap_of(n: u8) -> Option<u8>
+    ensures { result ≡ sap_of n }
+{
+    match n {
+        255 => None,
+        _ => Some(n),
     }
 }
 
 impl Service {
     // Where the service is reached: its access point, or none.
-    pub fn sap(self) -> Sap
+    pub fn sap(self) -> Option<u8>
         ensures { result ≡ service_sap self }
     {
         match self {
-            Service::MasterDataExchange => Sap::Absent,
-            Service::MasterMs0 => Sap::At(62),
-            Service::SlaveDataExchange => Sap::Absent,
-            Service::SlaveGlobalControl => Sap::At(58),
-            Service::SlaveDiagnosis => Sap::At(60),
-            Service::SlaveSetPrm => Sap::At(61),
-            Service::SlaveChkCfg => Sap::At(62),
+            Service::MasterDataExchange | Service::SlaveDataExchange => None,
+            Service::SlaveGlobalControl => Some(58),
+            Service::SlaveDiagnosis => Some(60),
+            Service::SlaveSetPrm => Some(61),
+            Service::MasterMs0 | Service::SlaveChkCfg => Some(62),
         }
     }
 }

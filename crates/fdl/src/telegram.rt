@@ -3,31 +3,30 @@ ghost use Rattle.std.specs.Prelude.{◌≡◌};
 ghost use Rattle.fdl.specs.Bits.{cycled, fcb_of, fcv_of, bit_number, bit_of, request_number};
 ghost use Rattle.fdl.specs.Status.{among, codes, is_short, usable_reply};
 
-use crate::consts::Sap;
 use refusals::MAX_PAYLOAD;
 
 // The bit that tells a repeated request from a new one; inactive in global control.
-#[derive(Clone, Copy)]
+#[derive(Clone, Copy, PartialEq, Eq)]
 pub enum FrameCountBit {
-    // 1: FCB 1, FCV 0; a new or reset balance is asked with it until a reply cycles it.
-    First,
-    // 2: FCB 0, FCV 1; follows First, and High.
-    Low,
-    // 3: FCB 1, FCV 1; follows Low.
-    High,
-    // 0: FCB 0, FCV 0; that of the global control, and cycling leaves it.
-    Inactive,
+    // FCB 1, FCV 0; a new or reset balance is asked with it until a reply cycles it.
+    First = 1,
+    // FCB 0, FCV 1; follows First, and High.
+    Low = 2,
+    // FCB 1, FCV 1; follows Low.
+    High = 3,
+    // FCB 0, FCV 0; that of the global control, and cycling leaves it.
+    Inactive = 0,
 }
 
 // The service and the priority of a request.
-#[derive(Clone, Copy)]
+#[derive(Clone, Copy, PartialEq, Eq)]
 pub enum RequestType {
-    // 0x04: send data with no acknowledge, low priority, for the global control.
-    SdnLow,
-    // 0x0C: send and request data, low priority, for diagnosis, parameters and configuration.
-    SrdLow,
-    // 0x0D: send and request data, high priority, for data.
-    SrdHigh,
+    // Send data with no acknowledge, low priority, for the global control.
+    SdnLow = 0x04,
+    // Send and request data, low priority, for diagnosis, parameters and configuration.
+    SrdLow = 0x0C,
+    // Send and request data, high priority, for data.
+    SrdHigh = 0x0D,
 }
 
 // The header of a request.
@@ -38,9 +37,9 @@ pub struct DataTelegramHeader {
     // Source: the master's own address, 0 to 125.
     pub sa: u8,
     // Destination's service access point: 60, 61, 62, 58 for the global control, none for data.
-    pub dsap: Sap,
+    pub dsap: Option<u8>,
     // Source's service access point: 62, none for data.
-    pub ssap: Sap,
+    pub ssap: Option<u8>,
     // Frame bit, FCB with FCV; inactive in the global control.
     pub fcb: FrameCountBit,
     // SDN low for the global control, SRD high for data, SRD low for the rest.
@@ -53,7 +52,11 @@ pub enum Telegram {
     // Kind 0: one byte on the wire (SC) and no payload; it acknowledges parameters and configuration.
     ShortConfirmation,
     // Kind 1: a reply with a payload, its access points and its status, usable where that is one of the nine codes.
-    Data { dsap: Sap, ssap: Sap, status: u8 },
+    Data {
+        dsap: Option<u8>,
+        ssap: Option<u8>,
+        status: u8,
+    },
     // Kind 2: the right to send, handed on; no reply, and refused as 10.
     Token,
     // Kind 3: somebody's request; no reply, and refused as 10.
@@ -78,10 +81,8 @@ impl FrameCountBit {
         ensures { result ≡ fcb_of self }
     {
         match self {
-            FrameCountBit::First => 1,
-            FrameCountBit::Low => 0,
-            FrameCountBit::High => 1,
-            FrameCountBit::Inactive => 0,
+            FrameCountBit::First | FrameCountBit::High => 1,
+            FrameCountBit::Low | FrameCountBit::Inactive => 0,
         }
     }
 
@@ -90,29 +91,25 @@ impl FrameCountBit {
         ensures { result ≡ fcv_of self }
     {
         match self {
-            FrameCountBit::First => 0,
-            FrameCountBit::Low => 1,
-            FrameCountBit::High => 1,
-            FrameCountBit::Inactive => 0,
+            FrameCountBit::Low | FrameCountBit::High => 1,
+            FrameCountBit::First | FrameCountBit::Inactive => 0,
         }
     }
+}
 
-    // The number that stands for it in a record.
-    pub fn number(self) -> u8
-        ensures { result ≡ bit_number self }
-    {
-        match self {
-            FrameCountBit::Inactive => 0,
-            FrameCountBit::First => 1,
-            FrameCountBit::Low => 2,
-            FrameCountBit::High => 3,
-        }
+impl From<FrameCountBit> for u8 {
+    ghost from_gives = { λ bit n. n ≡ bit_number bit };
+
+    fn from(bit: FrameCountBit) -> u8 {
+        bit as u8
     }
+}
 
-    // The bit of a number; any that is not 1, 2 or 3 counts as inactive. DECISIONS 20
-    pub fn of(n: u8) -> FrameCountBit
-        ensures { result ≡ bit_of n }
-    {
+impl From<u8> for FrameCountBit {
+    ghost from_gives = { λ n bit. bit ≡ bit_of n };
+
+    // Any number that is not 1, 2 or 3 counts as inactive. DECISIONS 20
+    fn from(n: u8) -> FrameCountBit {
         match n {
             1 => FrameCountBit::First,
             2 => FrameCountBit::Low,
@@ -122,16 +119,12 @@ impl FrameCountBit {
     }
 }
 
-impl RequestType {
+impl From<RequestType> for u8 {
+    ghost from_gives = { λ kind n. n ≡ request_number kind };
+
     // The low bits of the function code.
-    pub fn number(self) -> u8
-        ensures { result ≡ request_number self }
-    {
-        match self {
-            RequestType::SdnLow => 0x04,
-            RequestType::SrdLow => 0x0C,
-            RequestType::SrdHigh => 0x0D,
-        }
+    fn from(kind: RequestType) -> u8 {
+        kind as u8
     }
 }
 
@@ -139,18 +132,7 @@ impl RequestType {
 fn usable_status(code: u8) -> bool
     ensures { result ≡ among code codes }
 {
-    match code {
-        0 => true,
-        1 => true,
-        2 => true,
-        3 => true,
-        8 => true,
-        9 => true,
-        10 => true,
-        12 => true,
-        13 => true,
-        _ => false,
-    }
+    matches!(code, 0..=3 | 8..=10 | 12 | 13)
 }
 
 impl Telegram {
@@ -158,16 +140,7 @@ impl Telegram {
     pub fn is_short_confirmation(self) -> bool
         ensures { result ≡ is_short self }
     {
-        match self {
-            Telegram::ShortConfirmation => true,
-            Telegram::Data {
-                dsap: _,
-                ssap: _,
-                status: _,
-            } => false,
-            Telegram::Token => false,
-            Telegram::Request => false,
-        }
+        matches!(self, Telegram::ShortConfirmation)
     }
 
     // Whether a reply with a payload of `len` bytes can be used at all; else it is refused as 10.
@@ -176,19 +149,8 @@ impl Telegram {
     {
         match self {
             Telegram::ShortConfirmation => true,
-            Telegram::Data {
-                dsap: _,
-                ssap: _,
-                status,
-            } => {
-                if usable_status(status) {
-                    len <= MAX_PAYLOAD
-                } else {
-                    false
-                }
-            }
-            Telegram::Token => false,
-            Telegram::Request => false,
+            Telegram::Data { status, .. } => usable_status(status) && len <= MAX_PAYLOAD,
+            Telegram::Token | Telegram::Request => false,
         }
     }
 }

@@ -1,22 +1,27 @@
--- What the functions that write into lent bytes leave, said of the definitions; and how long a diagnosis is.
--- The idea: `put_in` answers what fits by `room_for`, so each fact is one case of that test.
+-- What the functions that write into lent bytes leave, said of the definitions; and what a mask does to the flags of a diagnosis.
+-- The idea: `put_in` answers what fits by `room_for`, so each fact is one case of that test; a flag's weight is a power of 2, so a mask is its bit.
 use mathlib.Core.Path.{◌≡◌, refl, sym, ap, ◌∙◌, subst}
-use mathlib.Core.Bool.{Bool, true, false, ◌&&◌, false≢true}
+use mathlib.Core.Bool.{Bool, true, false, not}
 use mathlib.Core.List.{List, ◌++◌}
-use Prim.Native.Nat.{ℕ, ◌+◌, ◌-◌, ◌≤◌, ◌<◌}
+use Prim.Native.Nat.{ℕ, zero, suc, ◌+◌, ◌-◌, ◌*◌, ◌/◌, ◌%◌, ◌^◌, ◌≤◌, ◌<◌}
 use native.Mathlib.Omega.{arith}
 use lib.ListN.{length, take, drop, length-append}
 use lib.Dec.{leb, eqb}
 use borrow.Author.Tests.{lt-leb, leb-true, leb-false}
 use Rattle.parts.specs.Parts.{inside, room_for, put_in, Put}
-use Rattle.parts.proofs.Laws.{and_right, room-own, put_kept, inside_yes, inside-leb, length-put, lent_put, put-append}
+use Rattle.parts.proofs.Laws.{room-own, put_kept, inside_yes, inside-leb, length-put, lent_put, put-append}
 use Rattle.fdl.specs.declared.parameters.Parameters.{Parameters}
 use Rattle.payloads.specs.declared.options.PeripheralOptions.{PeripheralOptions}
 use Rattle.payloads.specs.Payload.{param_head, Written}
-use Rattle.fdl.specs.Sap.{sap_number}
-use Rattle.fdl.specs.declared.telegram.Telegram.{Telegram}
-use Rattle.fdl.specs.declared.telegram.Telegram.TheVariants.{ShortConfirmation, Data, Token, Request}
-use Rattle.payloads.specs.Diagnosis.{taken}
+use Rattle.payloads.specs.Diagnosis.{flag, flag_weight, without}
+use Rattle.payloads.specs.declared.diagnosis.DiagnosticFlags.{DiagnosticFlags}
+use Rattle.payloads.specs.declared.diagnosis.DiagnosticFlags.TheVariants.{StationNotReady, ConfigurationFault, ExtDiag, ParameterFault, ParameterRequired, PermanentBit}
+use Rattle.std.specs.Int.{bit_at}
+use Rattle.std.specs.Int.Bits.{bit_and}
+use Rattle.std.proofs.lemmas.Nat.Bits.{and_pow, bit_at-lt}
+use Rattle.std.proofs.lemmas.Nat.{and-not, and_comm, pow_pos}
+use Rattle.std.proofs.lemmas.Bool.Decides.{nat_tests}
+use Rattle.std.proofs.Common.{nat_eq}
 
 -- ---- a payload at the front of the buffer
 
@@ -33,14 +38,8 @@ module _ (n : ℕ) (payload buf out : List ℕ) (fitted : Bool) (e : n ≡ lengt
   pub unwritten : fitted ≡ false → Written payload buf out 0
   unwritten t = record { len = rw (sym own ∙ t) refl; bytes = bytes }
 
-pub written_as : (a b buf out : List ℕ) (r : ℕ) → a ≡ b → Written a buf out r → Written b buf out r
-written_as a b buf out r e w = subst (λ (l : List ℕ). Written l buf out r) e w
-
 module _ (payload buf : List ℕ) where
-  pub put_written : (out : List ℕ) → length payload ≤ length buf → out ≡ put_in 0 (length payload) payload buf → Written payload buf out (length payload)
-  put_written out h e = record { len = rw (inside_yes 0 (length payload) buf (omega arith)) refl; bytes = e }
-
-  pub unwritten_short : length buf < length payload → Written payload buf buf 0
+  unwritten_short : length buf < length payload → Written payload buf buf 0
   unwritten_short h =
       let o : inside 0 (length payload) buf ≡ false = sym (inside-leb 0 (length payload) buf) ∙ lt-leb (0 + length payload) (length buf) (omega arith) in
       record { len = rw o refl; bytes = sym (put_kept 0 (length payload) payload buf (room-own 0 payload buf ∙ o)) }
@@ -74,10 +73,26 @@ module _ (u : Parameters) (o : PeripheralOptions) (user buf : List ℕ) where
   pub unbuilt : leb (7 + length user) (length buf) ≡ false → Written (param_head u o ++ user) buf buf 0
   unbuilt t = unwritten_short (param_head u o ++ user) buf (omega (arith, payload-length, leb-false (7 + length user) (length buf) t))
 
--- ---- a diagnosis that is taken has six bytes
+-- ---- a flag is read by a mask, and removed by one
 
-pub taken_six : (t : Telegram) (n : ℕ) → taken t n ≡ true → 6 ≤ n
-taken_six ShortConfirmation n e = absurd (false≢true e)
-taken_six (Data dsap ssap status) n e = leb-true 6 n (and_right (eqb (sap_number dsap) 62 && eqb (sap_number ssap) 60) (leb 6 n) e)
-taken_six Token n e = absurd (false≢true e)
-taken_six Request n e = absurd (false≢true e)
+bit_test : (w b : ℕ) → 0 < w → b < 2 → not (nat_eq (b * w) 0) ≡ eqb b 1
+bit_test w zero h k = grind (arith, nat_tests)
+bit_test w (suc zero) h k = grind (arith, nat_tests)
+bit_test w (suc (suc b)) h k = absurd (omega arith)
+
+bit_set : (n k : ℕ) → not (nat_eq (bit_and n (2 ^ k)) 0) ≡ flag (2 ^ k) n
+bit_set n k = rw (and_pow n k) (bit_test (2 ^ k) (bit_at n k) (pow_pos k) (bit_at-lt n k))
+
+pub masked : (f : DiagnosticFlags) (n : ℕ) → not (nat_eq (bit_and n (flag_weight f)) 0) ≡ flag (flag_weight f) n
+masked StationNotReady n = bit_set n 1
+masked ConfigurationFault n = bit_set n 2
+masked ExtDiag n = bit_set n 3
+masked ParameterFault n = bit_set n 6
+masked ParameterRequired n = bit_set n 8
+masked PermanentBit n = bit_set n 10
+
+pub unmasked : (n : ℕ) → n < 65536 → bit_and n (65535 - 0x0400) ≡ without 0x0400 n
+unmasked n h =
+    let e : bit_and 64511 n + bit_and 0x0400 n ≡ n = and-not 16 0x0400 n (omega arith) h in
+    let k : bit_and 0x0400 n ≡ n / 0x0400 % 2 * 0x0400 = and_comm 0x0400 n ∙ and_pow n 10 in
+    and_comm n 64511 ∙ omega arith

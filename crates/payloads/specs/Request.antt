@@ -1,8 +1,6 @@
 -- The four requests, number and header, and the header of the global control.
 -- From 01, "One visit and one reply", the table of requests, and "One turn" on global control; the numbers are ours, 0 stands for none.
-use Rattle.std.specs.Prelude.{ℕ, Bool, true, false, cond, eqb}
-use Rattle.fdl.specs.declared.consts.Sap.{Sap}
-use Rattle.fdl.specs.declared.consts.Sap.TheVariants.{Absent, At}
+use Rattle.std.specs.Prelude.{ℕ, Bool, true, false, cond, eqb, Option, Some, None}
 use Rattle.fdl.specs.declared.telegram.FrameCountBit.{FrameCountBit}
 use Rattle.fdl.specs.declared.telegram.FrameCountBit.TheVariants.{Inactive}
 use Rattle.fdl.specs.declared.telegram.RequestType.{RequestType}
@@ -34,17 +32,17 @@ is_data Configuration = false
 is_data Data = true
 
 -- the table of requests: DSAP, SSAP, priority
-abbrev pub dsap_of : Request → Sap
-dsap_of Diagnosis = At 60
-dsap_of Parameters = At 61
-dsap_of Configuration = At 62
-dsap_of Data = Absent
+abbrev pub dsap_of : Request → Option ℕ
+dsap_of Diagnosis = Some 60
+dsap_of Parameters = Some 61
+dsap_of Configuration = Some 62
+dsap_of Data = None
 
-abbrev pub ssap_of : Request → Sap
-ssap_of Diagnosis = At 62
-ssap_of Parameters = At 62
-ssap_of Configuration = At 62
-ssap_of Data = Absent
+abbrev pub ssap_of : Request → Option ℕ
+ssap_of Diagnosis = Some 62
+ssap_of Parameters = Some 62
+ssap_of Configuration = Some 62
+ssap_of Data = None
 
 abbrev pub priority_of : Request → RequestType
 priority_of Diagnosis = SrdLow
@@ -58,4 +56,4 @@ header_of k da sa bit = record { da = da; sa = sa; dsap = dsap_of k; ssap = ssap
 
 -- global control: address 0x7F, low-priority SDN, frame bit inactive, DSAP 58, SSAP 62
 abbrev pub control_header : ℕ → DataTelegramHeader
-control_header sa = record { da = 0x7F; sa = sa; dsap = At 58; ssap = At 62; fcb = Inactive; req = SdnLow }
+control_header sa = record { da = 0x7F; sa = sa; dsap = Some 58; ssap = Some 62; fcb = Inactive; req = SdnLow }

@@ -1,13 +1,15 @@
 // A diagnosis reply: taken or not, read, and its extended part stored.
-ghost use Rattle.std.specs.Prelude.{◌≡◌, ◌<◌};
+ghost use Rattle.std.specs.Prelude.{◌≡◌};
 ghost use Rattle.parts.specs.Parts.{put_in};
 ghost use Rattle.payloads.specs.Diagnosis.{no_diagnosis, taken, flag, flag_weight, diagnosis_of};
 
 use fdl::telegram::Telegram;
 
 // The last diagnosis that was taken, without its extended part.
+// `held` stands beside the numbers, and is no `Option`, since the record has C's layout and every value of it is accepted.
+// Its default is what an empty slot holds, zeros; `none` is what a balance that holds none answers.
 #[repr(C)]
-#[derive(Clone, Copy)]
+#[derive(Clone, Copy, Default)]
 pub struct DiagnosticsInfo {
     // Bytes 0 and 1 of the reply, low byte first, with 0x0400 removed; 0 before a diagnosis is held.
     pub flags: u16,
@@ -33,50 +35,39 @@ impl DiagnosticsInfo {
     }
 }
 
-// The flags of a diagnosis that a rule looks at.
-#[derive(Clone, Copy)]
+// The flags of a diagnosis that a rule looks at, each with its weight.
+#[derive(Clone, Copy, PartialEq, Eq)]
 pub enum DiagnosticFlags {
-    // 0x0002: it is not ready for data exchange; in ValidateConfig it is asked again.
-    StationNotReady,
-    // 0x0004: the configuration sent to it is faulty; in ValidateConfig that is ConfigError.
-    ConfigurationFault,
-    // 0x0008: an extended part follows, from byte 6 on.
-    ExtDiag,
-    // 0x0040: the parameters sent to it are faulty; in ValidateConfig that is ParameterError.
-    ParameterFault,
-    // 0x0100: it wants parameters; ValidateConfig goes back to WaitForParam.
-    ParameterRequired,
-    // 0x0400: by the standard it is always set; it is removed from what is held.
-    PermanentBit,
+    // It is not ready for data exchange; in ValidateConfig it is asked again.
+    StationNotReady = 0x0002,
+    // The configuration sent to it is faulty; in ValidateConfig that is ConfigError.
+    ConfigurationFault = 0x0004,
+    // An extended part follows, from byte 6 on.
+    ExtDiag = 0x0008,
+    // The parameters sent to it are faulty; in ValidateConfig that is ParameterError.
+    ParameterFault = 0x0040,
+    // It wants parameters; ValidateConfig goes back to WaitForParam.
+    ParameterRequired = 0x0100,
+    // By the standard it is always set; it is removed from what is held.
+    PermanentBit = 0x0400,
+}
+
+impl From<DiagnosticFlags> for u16 {
+    ghost from_gives = { λ f n. n ≡ flag_weight f };
+
+    fn from(flag: DiagnosticFlags) -> u16 {
+        flag as u16
+    }
 }
 
 impl DiagnosticFlags {
-    // Its weight in the flags, a power of 2.
-    pub fn number(self) -> u16
-        ensures { (result ≡ flag_weight self) × (0 < result) }
-    {
-        match self {
-            DiagnosticFlags::StationNotReady => 0x0002,
-            DiagnosticFlags::ConfigurationFault => 0x0004,
-            DiagnosticFlags::ExtDiag => 0x0008,
-            DiagnosticFlags::ParameterFault => 0x0040,
-            DiagnosticFlags::ParameterRequired => 0x0100,
-            DiagnosticFlags::PermanentBit => 0x0400,
-        }
-    }
-
-    // Whether it is set. By division: a mask has no laws to prove it by.
+    // Whether it is set.
+    #[tactic(auto, using(crate::proofs::Facts::masked))]
     pub fn is_in(self, flags: u16) -> bool
         ensures { result ≡ flag (flag_weight self) flags }
     {
-        flags / self.number() % 2 == 1
+        flags & u16::from(self) != 0
     }
-}
-
-fn wide(x: u8) -> u16
-    ensures { (result ≡ x) × (result < 256) }
-{
-    x as u16
 }
 
 // Whether it is data with DSAP 62, SSAP 60 and at least 6 bytes.
@@ -84,33 +75,24 @@ pub fn is_taken(telegram: Telegram, len: usize) -> bool
     ensures { result ≡ taken telegram len }
 {
     match telegram {
-        Telegram::ShortConfirmation => false,
         Telegram::Data {
-            dsap,
-            ssap,
-            status: _,
-        } => {
-            if dsap.number() == 62 {
-                if ssap.number() == 60 {
-                    return 6 <= len;
-                }
-            }
-            false
-        }
-        Telegram::Token => false,
-        Telegram::Request => false,
+            dsap: Some(62),
+            ssap: Some(60),
+            ..
+        } => 6 <= len,
+        _ => false,
     }
 }
 
 // Flags low byte first, with 0x0400 removed; the master; the ident, high byte first. A byte that is not there reads as 0.
+#[tactic(auto, using(crate::proofs::Facts::unmasked), unfolding(crate::specs::Diagnosis::diagnosis_of))]
 pub fn read_diagnosis(p: &[u8]) -> DiagnosticsInfo
     ensures { result ≡ diagnosis_of p.now }
 {
-    let raw = wide(parts::byte_at(p, 0)) + 256 * wide(parts::byte_at(p, 1));
-    let bit = DiagnosticFlags::PermanentBit.number();
+    let raw = u16::from_le_bytes([parts::byte_at(p, 0), parts::byte_at(p, 1)]);
     DiagnosticsInfo {
-        flags: raw - bit * (raw / bit % 2),
-        ident_number: 256 * wide(parts::byte_at(p, 4)) + wide(parts::byte_at(p, 5)),
+        flags: raw & !u16::from(DiagnosticFlags::PermanentBit),
+        ident_number: u16::from_be_bytes([parts::byte_at(p, 4), parts::byte_at(p, 5)]),
         master_address: parts::byte_at(p, 3),
         held: true,
     }
@@ -120,5 +102,5 @@ pub fn read_diagnosis(p: &[u8]) -> DiagnosticsInfo
 pub fn store_extended(diags: &mut [u8], at: usize, room: u8, ext: &[u8])
     ensures { diags.new ≡ put_in at room ext.now diags.old }
 {
-    parts::copy_at(diags, at, parts::widen8(room), ext);
+    parts::copy_at(diags, at, usize::from(room), ext);
 }

@@ -1,8 +1,9 @@
 // How a peripheral is to be set up.
 
 // The options of a balance; absent user parameters or configuration have the length 0 and no mark.
+// Each mark stands beside its length, and is no `Option`, since the record has C's layout and any pair of the two is accepted.
 #[repr(C)]
-#[derive(Clone, Copy)]
+#[derive(Clone, Copy, Default)]
 pub struct PeripheralOptions {
     // Ident number by the GSD file, any of 16 bits; parameter bytes 4 and 5, high byte first.
     pub ident_number: u16,

@@ -5,52 +5,46 @@ ghost use Rattle.payloads.specs.Request.{kind_number, request_numbered, is_data,
 use fdl::consts::Service;
 use fdl::telegram::{DataTelegramHeader, FrameCountBit, RequestType};
 
-// What a balance can be asked for or told; a turn sends at most one.
-#[derive(Clone, Copy)]
+// What a balance can be asked for or told; a turn sends at most one. 0 stands for no request.
+#[derive(Clone, Copy, PartialEq, Eq)]
 pub enum Request {
-    // 1: its diagnosis (Slave_Diag), DSAP 60; no payload.
-    Diagnosis,
-    // 2: to take its parameters (Set_Prm), DSAP 61; seven bytes, then the user parameters.
-    Parameters,
-    // 3: to check its configuration (Chk_Cfg), DSAP 62; the bytes as stored.
-    Configuration,
-    // 4: to exchange data (Data_Exchange), no access points; the output image, in Clear zeros or nothing.
-    Data,
+    // Its diagnosis (Slave_Diag), DSAP 60; no payload.
+    Diagnosis = 1,
+    // To take its parameters (Set_Prm), DSAP 61; seven bytes, then the user parameters.
+    Parameters = 2,
+    // To check its configuration (Chk_Cfg), DSAP 62; the bytes as stored.
+    Configuration = 3,
+    // To exchange data (Data_Exchange), no access points; the output image, in Clear zeros or nothing.
+    Data = 4,
 }
 
 // The header of the global control, which goes to all.
 pub fn control_header(sa: u8) -> DataTelegramHeader
     ensures { result ≡ control_header sa }
 {
-    let dsap = Service::SlaveGlobalControl.sap();
-    let ssap = Service::MasterMs0.sap();
     DataTelegramHeader {
         da: 0x7F,
-        sa: sa,
-        dsap: dsap,
-        ssap: ssap,
+        sa,
+        dsap: Service::SlaveGlobalControl.sap(),
+        ssap: Service::MasterMs0.sap(),
         fcb: FrameCountBit::Inactive,
         req: RequestType::SdnLow,
     }
 }
 
-impl Request {
-    // Its number, 1 to 4; 0 stands for no request.
-    pub fn number(self) -> u8
-        ensures { result ≡ kind_number self }
-    {
-        match self {
-            Request::Diagnosis => 1,
-            Request::Parameters => 2,
-            Request::Configuration => 3,
-            Request::Data => 4,
-        }
-    }
+impl From<Request> for u8 {
+    ghost from_gives = { λ k n. n ≡ kind_number k };
 
-    // The request that a kept number stands for; a number that is none of the four counts as a diagnosis, so that no weight comes of it.
-    pub fn of(n: u8) -> Request
-        ensures { result ≡ request_numbered n }
-    {
+    fn from(kind: Request) -> u8 {
+        kind as u8
+    }
+}
+
+impl From<u8> for Request {
+    ghost from_gives = { λ n k. k ≡ request_numbered n };
+
+    // A number that is none of the four counts as a diagnosis, so that no weight comes of it.
+    fn from(n: u8) -> Request {
         match n {
             2 => Request::Parameters,
             3 => Request::Configuration,
@@ -58,57 +52,49 @@ impl Request {
             _ => Request::Diagnosis,
         }
     }
+}
 
+impl Request {
     // Whether data is asked for.
     pub fn is_data(self) -> bool
         ensures { result ≡ is_data self }
     {
-        match self {
-            Request::Diagnosis => false,
-            Request::Parameters => false,
-            Request::Configuration => false,
-            Request::Data => true,
-        }
+        self == Request::Data
     }
 
     // The header of this request from the station `sa` to the station `da`.
     pub fn header(self, da: u8, sa: u8, fcb: FrameCountBit) -> DataTelegramHeader
         ensures { result ≡ header_of self da sa fcb }
     {
-        let ms0 = Service::MasterMs0.sap();
-        match self {
-            Request::Diagnosis => DataTelegramHeader {
-                da: da,
-                sa: sa,
-                dsap: Service::SlaveDiagnosis.sap(),
-                ssap: ms0,
-                fcb: fcb,
-                req: RequestType::SrdLow,
-            },
-            Request::Parameters => DataTelegramHeader {
-                da: da,
-                sa: sa,
-                dsap: Service::SlaveSetPrm.sap(),
-                ssap: ms0,
-                fcb: fcb,
-                req: RequestType::SrdLow,
-            },
-            Request::Configuration => DataTelegramHeader {
-                da: da,
-                sa: sa,
-                dsap: Service::SlaveChkCfg.sap(),
-                ssap: ms0,
-                fcb: fcb,
-                req: RequestType::SrdLow,
-            },
-            Request::Data => DataTelegramHeader {
-                da: da,
-                sa: sa,
-                dsap: Service::SlaveDataExchange.sap(),
-                ssap: Service::MasterDataExchange.sap(),
-                fcb: fcb,
-                req: RequestType::SrdHigh,
-            },
+        let (dsap, ssap, req) = match self {
+            Request::Diagnosis => (
+                Service::SlaveDiagnosis.sap(),
+                Service::MasterMs0.sap(),
+                RequestType::SrdLow,
+            ),
+            Request::Parameters => (
+                Service::SlaveSetPrm.sap(),
+                Service::MasterMs0.sap(),
+                RequestType::SrdLow,
+            ),
+            Request::Configuration => (
+                Service::SlaveChkCfg.sap(),
+                Service::MasterMs0.sap(),
+                RequestType::SrdLow,
+            ),
+            Request::Data => (
+                Service::SlaveDataExchange.sap(),
+                Service::MasterDataExchange.sap(),
+                RequestType::SrdHigh,
+            ),
+        };
+        DataTelegramHeader {
+            da,
+            sa,
+            dsap,
+            ssap,
+            fcb,
+            req,
         }
     }
 }

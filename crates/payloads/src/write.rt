@@ -1,6 +1,6 @@
 // Payloads written into the lent buffer: its front has the payload and the length is answered, or nothing is written and the answer is 0.
-ghost use Rattle.std.specs.Prelude.{◌≡◌, cond, ◌++◌, ◌≤◌, length};
-ghost use Rattle.parts.specs.Parts.{put_in, zeros};
+ghost use Rattle.std.specs.Prelude.{◌≡◌, cond, ◌++◌, ◌≤◌};
+ghost use Rattle.parts.specs.Parts.{zeros};
 ghost use Rattle.payloads.specs.Payload.{param_head, control_payload, Written};
 
 use crate::options::PeripheralOptions;
@@ -14,21 +14,20 @@ fn bit_if(on: bool, v: u8) -> u8
 }
 
 // The seven bytes that every parameter telegram begins with.
-fn write_head(u: Parameters, o: PeripheralOptions, buf: &mut [u8])
-    requires { 7 ≤ length buf.old }
-    ensures { buf.new ≡ put_in 0 7 (param_head u o) buf.old }
+#[tactic(auto, unfolding(crate::specs::Payload::param_head))]
+fn param_head(u: Parameters, o: PeripheralOptions) -> [u8; 7]
+    ensures { result ≡ param_head u o }
 {
-    let ident = o.ident_number;
-    buf[0] = 0x80
-        + bit_if(o.sync_mode, 0x20)
-        + bit_if(o.freeze_mode, 0x10)
-        + bit_if(u.watchdog, 0x08);
-    buf[1] = bit_if(u.watchdog, u.watchdog_first);
-    buf[2] = bit_if(u.watchdog, u.watchdog_second);
-    buf[3] = u.min_tsdr_bits;
-    buf[4] = (ident / 256) as u8;
-    buf[5] = (ident % 256) as u8;
-    buf[6] = o.groups;
+    let [ident_high, ident_low] = o.ident_number.to_be_bytes();
+    [
+        0x80 + bit_if(o.sync_mode, 0x20) + bit_if(o.freeze_mode, 0x10) + bit_if(u.watchdog, 0x08),
+        bit_if(u.watchdog, u.watchdog_first),
+        bit_if(u.watchdog, u.watchdog_second),
+        u.min_tsdr_bits,
+        ident_high,
+        ident_low,
+        o.groups,
+    ]
 }
 
 // The seven bytes, then the user data, whose copier is lent the part of the buffer that starts at byte 7.
@@ -37,11 +36,12 @@ pub fn write_parameters(u: Parameters, o: PeripheralOptions, user: &[u8], buf: &
 {
     let count = user.len();
     if parts::inside(7, count, buf.len()) {
-        write_head(u, o, buf);
+        parts::copy_at(buf, 0, 7, &param_head(u, o));
         parts::copy_at(&mut buf[7..], 0, count, user);
-        return 7 + count;
+        7 + count
+    } else {
+        0
     }
-    0
 }
 
 // Bytes as they are: a configuration, or an output image.
@@ -50,9 +50,10 @@ pub fn write_bytes(src: &[u8], buf: &mut [u8]) -> usize
 {
     let count = src.len();
     if parts::copy_at(buf, 0, count, src) {
-        return count;
+        count
+    } else {
+        0
     }
-    0
 }
 
 // So many zeros: an output image in Clear, or no payload at all.
@@ -60,19 +61,16 @@ pub fn write_zeros(count: usize, buf: &mut [u8]) -> usize
     ensures { Written (zeros count) buf.old buf.new result }
 {
     if parts::clear_at(buf, 0, count) {
-        return count;
+        count
+    } else {
+        0
     }
-    0
 }
 
 // The payload of the global control, two bytes: 0x02 in Clear, 0x00 in Operate; then 0x00, no group.
+#[tactic(auto, unfolding(crate::specs::Payload::control_payload))]
 pub fn write_control(clear: bool, buf: &mut [u8]) -> usize
     ensures { Written (control_payload clear) buf.old buf.new result }
 {
-    if buf.len() < 2 {
-        return 0;
-    }
-    buf[0] = bit_if(clear, 0x02);
-    buf[1] = 0x00;
-    2
+    write_bytes(&[bit_if(clear, 0x02), 0x00], buf)
 }

@@ -23,7 +23,7 @@ use Rattle.station.specs.Visit.{judged_as}
 use Rattle.station.specs.Heard.{data_heard, is_exchanged}
 use Rattle.station.proofs.Heards.{carries_data, diagnosis-keeps, acknowledgement_keeps, data_when}
 use Rattle.peripheral.specs.declared.record.Peripheral.{Peripheral}
-use Rattle.peripheral.specs.Response.{payload_part, station_diagnosed, fits_image, diagnosis_answer, diagnosis_keeps, answer_to, keeps_of, reply_of, with_image, with_part, Kept, diagnosis_taken, inputs_of, diags_of}
+use Rattle.peripheral.specs.Response.{payload_fits, station_diagnosed, fits_image, diagnosis_answer, diagnosis_keeps, answer_to, keeps_of, reply_of, with_image, with_part, Kept, diagnosis_taken, inputs_of, diags_of}
 
 -- ---- parts and puts
 
@@ -77,7 +77,7 @@ module _ (t : Telegram) (p : Peripheral) (payload inputs diags : List ℕ) where
     input-pool : (k : Request) → Stands k → out_inputs ≡ inputs_of (answer_to k t p payload (length inputs) (length diags)).event (carried t payload) p inputs
     unfolding keeps_of answer_to diagnosis_keeps
     input-pool Diagnosis s =
-        rw (exchanged-when Diagnosis) (by_test (taken t (length payload) && (payload_part p payload (length diags)).fits) (λ e. rw e at s.input_pool) (λ e. rw e at s.input_pool))
+        rw (exchanged-when Diagnosis) (by_test (taken t (length payload) && payload_fits p payload (length diags)) (λ e. rw e at s.input_pool) (λ e. rw e at s.input_pool))
     input-pool Parameters s = rw (acknowledgement_keeps (is_short t) WaitForConfig p.station) s.input_pool
     input-pool Configuration s = rw (acknowledgement_keeps (is_short t) ValidateConfig p.station) s.input_pool
     input-pool Data s =
@@ -88,7 +88,7 @@ module _ (t : Telegram) (p : Peripheral) (payload inputs diags : List ℕ) where
     diag_pool : (k : Request) → Stands k → out_diags ≡ diags_of (is_diagnosis k && taken t (length payload)) p payload diags
     unfolding keeps_of answer_to diagnosis_keeps
     diag_pool Diagnosis s =
-        by_test (taken t (length payload) && (payload_part p payload (length diags)).fits) (λ e. rw e (rw e at s.diag_pool)) (λ e. rw e (rw e at s.diag_pool))
+        by_test (taken t (length payload) && payload_fits p payload (length diags)) (λ e. rw e (rw e at s.diag_pool)) (λ e. rw e (rw e at s.diag_pool))
     diag_pool Parameters s = s.diag_pool
     diag_pool Configuration s = s.diag_pool
     diag_pool Data s =

@@ -1,7 +1,7 @@
 -- A reply to a balance: the record and the event after it, what of the payload is kept, and the two pools.
 -- From 01, "One visit and one reply": the paragraph on diagnosis replies, and the list by state.
 -- The decisions see the lent pools by their lengths: nothing is written before all is decided.
-use Rattle.std.specs.Prelude.{◌≡◌, ℕ, ◌+◌, ◌-◌, Bool, true, false, ◌&&◌, cond, List, length, drop, eqb, leb}
+use Rattle.std.specs.Prelude.{◌≡◌, ℕ, ◌+◌, ◌-◌, Bool, true, false, ◌&&◌, cond, Option, Some, None, List, length, drop, eqb, leb}
 use Rattle.parts.specs.Parts.{part, put_in}
 use Rattle.fdl.specs.Status.{is_short}
 use Rattle.fdl.specs.declared.telegram.Telegram.{Telegram}
@@ -19,7 +19,6 @@ use Rattle.station.specs.Record.{with_diagnosis}
 use Rattle.station.specs.Visit.{judged_as}
 use Rattle.station.specs.Heard.{diagnosis_heard, diagnosis_missed, acknowledgement_heard, data_heard, is_exchanged}
 use Rattle.peripheral.specs.declared.record.Peripheral.{Peripheral}
-use Rattle.peripheral.specs.declared.response.Extended.{Extended}
 use Rattle.peripheral.specs.declared.response.Keeps.{Keeps}
 use Rattle.peripheral.specs.declared.response.Keeps.TheVariants.{Neither, Image, Part}
 use Rattle.peripheral.specs.declared.response.Reply.{Reply}
@@ -32,18 +31,21 @@ unfoldable pub part_fits : Peripheral → ℕ → ℕ → ℕ → Bool
 part_fits p flags n diags =
     flag 0x0008 flags && (leb n (p.ranges.diag_room + 6) && leb (p.ranges.diag + p.ranges.diag_room) diags)
 
--- how many bytes are stored then: those from byte 6 on, else as before
-abbrev pub extended_of : Peripheral → ℕ → ℕ → ℕ → Extended
-extended_of p flags n diags =
-    record { fits = part_fits p flags n diags; len = cond (part_fits p flags n diags) (n - 6) p.station.diag_len }
+-- the length of the part where it fits: the bytes from byte 6 on
+abbrev pub extended_of : Peripheral → ℕ → ℕ → ℕ → Option ℕ
+extended_of p flags n diags = cond (part_fits p flags n diags) (Some (n - 6)) None
 
--- the same of a payload
-abbrev pub payload_part : Peripheral → List ℕ → ℕ → Extended
-payload_part p payload diags = extended_of p (diagnosis_of payload).flags (length payload) diags
+-- a payload's part fits
+abbrev pub payload_fits : Peripheral → List ℕ → ℕ → Bool
+payload_fits p payload diags = part_fits p (diagnosis_of payload).flags (length payload) diags
+
+-- how many bytes are stored then: those from byte 6 on, else as before
+abbrev pub payload_stored : Peripheral → List ℕ → ℕ → ℕ
+payload_stored p payload diags = cond (payload_fits p payload diags) (length payload - 6) p.station.diag_len
 
 -- the station that took it
 unfoldable pub station_diagnosed : Peripheral → List ℕ → ℕ → Station
-station_diagnosed p payload diags = with_diagnosis (diagnosis_of payload) (payload_part p payload diags).len p.station
+station_diagnosed p payload diags = with_diagnosis (diagnosis_of payload) (payload_stored p payload diags) p.station
 
 -- ---- the input image
 
@@ -62,7 +64,7 @@ diagnosis_answer t p payload diags =
     cond (taken t (length payload)) (diagnosis_heard (state_of p.station.state) (station_diagnosed p payload diags)) (diagnosis_missed (state_of p.station.state) p.station)
 
 unfoldable pub diagnosis_keeps : Telegram → Peripheral → List ℕ → ℕ → Keeps
-diagnosis_keeps t p payload diags = cond (taken t (length payload) && (payload_part p payload diags).fits) Part Neither
+diagnosis_keeps t p payload diags = cond (taken t (length payload) && payload_fits p payload diags) Part Neither
 
 -- what the station makes of it
 unfoldable pub answer_to : Request → Telegram → Peripheral → List ℕ → ℕ → ℕ → Heard
@@ -126,4 +128,4 @@ inputs_of e came p inputs = cond (is_exchanged e) (with_image p came inputs) inp
 
 -- the pool for diagnosis after a reply that was taken as one, or not
 abbrev pub diags_of : Bool → Peripheral → List ℕ → List ℕ → List ℕ
-diags_of took p payload diags = cond (took && (payload_part p payload (length diags)).fits) (with_part p payload diags) diags
+diags_of took p payload diags = cond (took && payload_fits p payload (length diags)) (with_part p payload diags) diags

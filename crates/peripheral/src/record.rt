@@ -11,7 +11,7 @@ use station::record::Station;
 
 // Where the four ranges stand in their pools. The set-up range is as long as its user parameters and configuration.
 #[repr(C)]
-#[derive(Clone, Copy)]
+#[derive(Clone, Copy, Default)]
 pub struct Ranges {
     // First byte of the set-up range in its pool, 0 to 16,384: user parameters, then configuration.
     pub setup: u16,
@@ -31,7 +31,7 @@ pub struct Ranges {
 
 // The record of a balance, 36 bytes: 12 that visits and replies change, and 24 that they do not.
 #[repr(C)]
-#[derive(Clone, Copy)]
+#[derive(Clone, Copy, Default)]
 pub struct Peripheral {
     // What visits and replies change; a reset makes it new.
     pub station: Station,
@@ -46,58 +46,17 @@ impl Peripheral {
     pub fn blank() -> Peripheral
         ensures { result ≡ blank }
     {
-        let diag = DiagnosticsInfo {
-            flags: 0,
-            ident_number: 0,
-            master_address: 0,
-            held: false,
-        };
-        let station = Station {
-            address: 0,
-            state: 0,
-            retry_count: 0,
-            fcb: 0,
-            diag_needed: false,
-            diag_len: 0,
-            diag: diag,
-        };
-        let ranges = Ranges {
-            setup: 0,
-            inputs: 0,
-            outputs: 0,
-            diag: 0,
-            input_len: 0,
-            output_len: 0,
-            diag_room: 0,
-        };
-        let options = PeripheralOptions {
-            ident_number: 0,
-            max_tsdr: 0,
-            groups: 0,
-            sync_mode: false,
-            freeze_mode: false,
-            fail_safe: false,
-            has_user_parameters: false,
-            user_parameters: 0,
-            has_config: false,
-            config: 0,
-        };
-        Peripheral {
-            station: station,
-            ranges: ranges,
-            options: options,
-        }
+        Peripheral::default()
     }
 
     // As newly added, with these options, its ranges placed.
     pub fn new(address: u8, options: PeripheralOptions, ranges: Ranges) -> Peripheral
         ensures { result ≡ new_balance address options ranges }
     {
-        let station = Station::new(address);
         Peripheral {
-            station: station,
-            ranges: ranges,
-            options: options,
+            station: Station::new(address),
+            ranges,
+            options,
         }
     }
 
@@ -105,9 +64,10 @@ impl Peripheral {
     pub fn reset_address(self, address: u8) -> Peripheral
         ensures { result ≡ reset_of self address }
     {
-        let mut p = self;
-        p.station = Station::new(address);
-        p
+        Peripheral {
+            station: Station::new(address),
+            ..self
+        }
     }
 
     // The station address that it was added at, or last reset to.
@@ -142,9 +102,10 @@ impl Peripheral {
     pub fn request_diagnostics(self) -> Peripheral
         ensures { result ≡ station_is (due_is true self.station) self }
     {
-        let mut p = self;
-        p.station = self.station.request_diagnostics();
-        p
+        Peripheral {
+            station: self.station.request_diagnostics(),
+            ..self
+        }
     }
 
     // The numbers of the diagnosis held; without one, those of none.
@@ -160,8 +121,8 @@ impl Peripheral {
     {
         parts::part(
             diags,
-            parts::widen16(self.ranges.diag),
-            parts::widen8(self.station.stored_part()),
+            usize::from(self.ranges.diag),
+            usize::from(self.station.stored_part()),
         )
     }
 
@@ -171,8 +132,8 @@ impl Peripheral {
     {
         parts::part(
             inputs,
-            parts::widen16(self.ranges.inputs),
-            parts::widen8(self.ranges.input_len),
+            usize::from(self.ranges.inputs),
+            usize::from(self.ranges.input_len),
         )
     }
 
@@ -182,8 +143,8 @@ impl Peripheral {
     {
         parts::part(
             outputs,
-            parts::widen16(self.ranges.outputs),
-            parts::widen8(self.ranges.output_len),
+            usize::from(self.ranges.outputs),
+            usize::from(self.ranges.output_len),
         )
     }
 
@@ -193,8 +154,8 @@ impl Peripheral {
     {
         parts::part_mut(
             outputs,
-            parts::widen16(self.ranges.outputs),
-            parts::widen8(self.ranges.output_len),
+            usize::from(self.ranges.outputs),
+            usize::from(self.ranges.output_len),
         )
     }
 }

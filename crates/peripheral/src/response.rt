@@ -23,15 +23,6 @@ pub enum Keeps {
     Part,
 }
 
-// The extended part of a diagnosis: whether there is one that fits its room, and how many bytes are stored then.
-#[derive(Clone, Copy)]
-pub struct Extended {
-    // Whether 0x0008 announces a part and the room, which lies in the pool, takes it.
-    pub fits: bool,
-    // Stored length in bytes, 0 to 238: that of a part that fits, else the length before.
-    pub len: u8,
-}
-
 // The peripheral after a reply, what is reported, and what is to be kept.
 #[derive(Clone, Copy)]
 pub struct Reply {
@@ -43,71 +34,47 @@ pub struct Reply {
     pub keeps: Keeps,
 }
 
-// The extended part where it fits.
-fn part_if(fits: bool) -> Keeps
-    ensures { result ≡ cond fits Keeps.Part Keeps.Neither }
-{
-    if fits { Keeps::Part } else { Keeps::Neither }
-}
-
 // The image with DataExchanged.
 fn image_if(event: PeripheralEvent) -> Keeps
     ensures { result ≡ cond (is_exchanged event) Keeps.Image Keeps.Neither }
 {
-    match event {
-        PeripheralEvent::NoEvent => Keeps::Neither,
-        PeripheralEvent::Online => Keeps::Neither,
-        PeripheralEvent::Configured => Keeps::Neither,
-        PeripheralEvent::ConfigError => Keeps::Neither,
-        PeripheralEvent::ParameterError => Keeps::Neither,
-        PeripheralEvent::DataExchanged => Keeps::Image,
-        PeripheralEvent::Diagnostics => Keeps::Neither,
-        PeripheralEvent::Offline => Keeps::Neither,
+    if event == PeripheralEvent::DataExchanged {
+        Keeps::Image
+    } else {
+        Keeps::Neither
     }
 }
 
 impl Peripheral {
-    // The extended part of a diagnosis of `len` bytes with these flags.
-    fn extended(self, flags: u16, len: usize, diags: usize) -> Extended
+    // The length of the extended part of a diagnosis of `len` bytes with these flags, where there is one that fits its room.
+    #[tactic(auto, unfolding(crate::specs::Response::part_fits))]
+    fn extended(self, flags: u16, len: usize, diags: usize) -> Option<u8>
         requires { 6 ≤ len }
         ensures { result ≡ extended_of self flags len diags }
     {
-        let room = parts::widen8(self.ranges.diag_room);
-        if DiagnosticFlags::ExtDiag.is_in(flags) {
-            if len <= room + 6 {
-                if parts::inside(parts::widen16(self.ranges.diag), room, diags) {
-                    return Extended {
-                        fits: true,
-                        len: (len - 6) as u8,
-                    };
-                }
-            }
-        }
-        Extended {
-            fits: false,
-            len: self.station.diag_len,
+        let room = usize::from(self.ranges.diag_room);
+        if DiagnosticFlags::ExtDiag.is_in(flags)
+            && len <= room + 6
+            && parts::inside(usize::from(self.ranges.diag), room, diags)
+        {
+            Some((len - 6) as u8)
+        } else {
+            None
         }
     }
 
     // Whether what came is the input image: nothing, for a 0-byte image; or a payload of its length.
+    #[tactic(auto, unfolding(crate::specs::Response::fits_image))]
     fn fits_image(self, telegram: Telegram, len: usize, inputs: usize) -> bool
         ensures { result ≡ fits_image telegram self len inputs }
     {
-        let room = parts::widen8(self.ranges.input_len);
+        let room = usize::from(self.ranges.input_len);
         match telegram {
             Telegram::ShortConfirmation => room == 0,
-            Telegram::Data {
-                dsap: _,
-                ssap: _,
-                status: _,
-            } => {
-                if len == room {
-                    return parts::inside(parts::widen16(self.ranges.inputs), room, inputs);
-                }
-                false
+            Telegram::Data { .. } => {
+                len == room && parts::inside(usize::from(self.ranges.inputs), room, inputs)
             }
-            Telegram::Token => false,
-            Telegram::Request => false,
+            Telegram::Token | Telegram::Request => false,
         }
     }
 
@@ -115,32 +82,37 @@ impl Peripheral {
     fn with_heard(self, h: Heard, keeps: Keeps) -> Reply
         ensures { result ≡ with_heard self h keeps }
     {
-        let mut p = self;
-        let station = h.station;
-        let event = h.event;
-        p.station = station;
         Reply {
-            peripheral: p,
-            event: event,
-            keeps: keeps,
+            peripheral: Peripheral {
+                station: h.station,
+                ..self
+            },
+            event: h.event,
+            keeps,
         }
     }
 
     // A diagnosis was asked for.
+    #[tactic(auto, unfolding(crate::specs::Response::station_diagnosed, crate::specs::Response::diagnosis_answer, crate::specs::Response::diagnosis_keeps))]
     fn handle_diagnostics_response(self, telegram: Telegram, payload: &[u8], diags: usize) -> Reply
         ensures { result ≡ with_heard self (diagnosis_answer telegram self payload.now diags) (diagnosis_keeps telegram self payload.now diags) }
     {
-        let s = self.station;
-        if diagnosis::is_taken(telegram, payload.len()) {
-            let d = diagnosis::read_diagnosis(payload);
-            let e = self.extended(d.flags, payload.len(), diags);
-            return self.with_heard(s.diagnosis_heard(d, e.len), part_if(e.fits));
+        if !diagnosis::is_taken(telegram, payload.len()) {
+            return self.with_heard(self.station.diagnosis_missed(), Keeps::Neither);
         }
-        self.with_heard(s.diagnosis_missed(), Keeps::Neither)
+        let diag = diagnosis::read_diagnosis(payload);
+        match self.extended(diag.flags, payload.len(), diags) {
+            Some(len) => self.with_heard(self.station.diagnosis_heard(diag, len), Keeps::Part),
+            None => self.with_heard(
+                self.station.diagnosis_heard(diag, self.station.diag_len),
+                Keeps::Neither,
+            ),
+        }
     }
 
     // The reply to the request that was asked, with the payload that came with it; the lent pools are so long.
     // Nothing is written: `keep` does it, once the record is stored.
+    #[tactic(auto, unfolding(crate::specs::Response::answer_to, crate::specs::Response::keeps_of))]
     pub fn receive_reply(
         self,
         asked: Request,
@@ -151,28 +123,26 @@ impl Peripheral {
     ) -> Reply
         ensures { result ≡ reply_of asked telegram self payload.now inputs diags }
     {
-        let s = self.station;
-        let kind = s.judged_as(asked);
-        match kind {
+        match self.station.judged_as(asked) {
             Request::Diagnosis => self.handle_diagnostics_response(telegram, payload, diags),
             Request::Parameters => {
-                let h = s.acknowledgement_heard(
-                    telegram.is_short_confirmation(),
-                    PeripheralState::WaitForConfig,
-                );
-                self.with_heard(h, Keeps::Neither)
+                let short = telegram.is_short_confirmation();
+                let heard = self
+                    .station
+                    .acknowledgement_heard(short, PeripheralState::WaitForConfig);
+                self.with_heard(heard, Keeps::Neither)
             }
             Request::Configuration => {
-                let h = s.acknowledgement_heard(
-                    telegram.is_short_confirmation(),
-                    PeripheralState::ValidateConfig,
-                );
-                self.with_heard(h, Keeps::Neither)
+                let short = telegram.is_short_confirmation();
+                let heard = self
+                    .station
+                    .acknowledgement_heard(short, PeripheralState::ValidateConfig);
+                self.with_heard(heard, Keeps::Neither)
             }
             Request::Data => {
-                let h = s.data_heard(telegram, self.fits_image(telegram, payload.len(), inputs));
-                let event = h.event;
-                self.with_heard(h, image_if(event))
+                let fits = self.fits_image(telegram, payload.len(), inputs);
+                let heard = self.station.data_heard(telegram, fits);
+                self.with_heard(heard, image_if(heard.event))
             }
         }
     }
@@ -181,9 +151,9 @@ impl Peripheral {
     fn keep_image(self, payload: &[u8], inputs: &mut [u8])
         ensures { inputs.new ≡ with_image self (part 0 self.ranges.input_len payload.now) inputs.old }
     {
-        let room = parts::widen8(self.ranges.input_len);
+        let room = usize::from(self.ranges.input_len);
         let came = parts::part(payload, 0, room);
-        parts::copy_at(inputs, parts::widen16(self.ranges.inputs), room, came);
+        parts::copy_at(inputs, usize::from(self.ranges.inputs), room, came);
     }
 
     // The tail of a diagnosis goes to the function that stores it.
@@ -191,7 +161,7 @@ impl Peripheral {
         ensures { diags.new ≡ with_part self payload.now diags.old }
     {
         if 6 <= payload.len() {
-            let at = parts::widen16(self.ranges.diag);
+            let at = usize::from(self.ranges.diag);
             diagnosis::store_extended(diags, at, self.ranges.diag_room, &payload[6..]);
         }
     }

@@ -7,6 +7,7 @@ use crate::record::Peripheral;
 use fdl::parameters::Parameters;
 use fdl::telegram::{DataTelegramHeader, FrameCountBit};
 use payloads::request::Request;
+use payloads::write;
 use station::visit::Visited;
 
 // The peripheral after a visit, and what the visit does.
@@ -22,10 +23,7 @@ pub struct Visit {
 fn clear_len(fail_safe: bool, len: usize) -> usize
     ensures { result ≡ clear_length fail_safe len }
 {
-    if fail_safe {
-        return 0;
-    }
-    len
+    if fail_safe { 0 } else { len }
 }
 
 impl Peripheral {
@@ -40,16 +38,9 @@ impl Peripheral {
             self.options.has_config,
         );
         let station = self.station.visited(what);
-        let ranges = self.ranges;
-        let options = self.options;
-        let p = Peripheral {
-            station: station,
-            ranges: ranges,
-            options: options,
-        };
         Visit {
-            peripheral: p,
-            what: what,
+            peripheral: Peripheral { station, ..self },
+            what,
         }
     }
 
@@ -60,11 +51,12 @@ impl Peripheral {
         kind.header(
             self.station.address,
             own,
-            FrameCountBit::of(self.station.fcb),
+            FrameCountBit::from(self.station.fcb),
         )
     }
 
     // The payload of a request at the front of `buf`; its length is answered, 0 where it does not fit.
+    #[tactic(auto, unfolding(crate::specs::Visit::payload_of))]
     pub fn write_payload(
         self,
         kind: Request,
@@ -76,26 +68,26 @@ impl Peripheral {
     ) -> usize
         ensures { Written (payload_of kind u clear self setup.now outputs.now) buf.old buf.new result }
     {
-        let at = parts::widen16(self.ranges.setup);
-        let count = parts::widen8(self.options.user_parameters);
+        let at = usize::from(self.ranges.setup);
+        let count = usize::from(self.options.user_parameters);
         match kind {
-            Request::Diagnosis => payloads::write::write_zeros(0, buf),
+            Request::Diagnosis => write::write_zeros(0, buf),
             Request::Parameters => {
                 let user = parts::part(setup, at, count);
-                let options = self.options;
-                payloads::write::write_parameters(u, options, user, buf)
+                write::write_parameters(u, self.options, user, buf)
             }
             Request::Configuration => {
-                let config = parts::part(setup, at + count, parts::widen8(self.options.config));
-                payloads::write::write_bytes(config, buf)
+                let config = parts::part(setup, at + count, usize::from(self.options.config));
+                write::write_bytes(config, buf)
             }
             Request::Data => {
                 let image = self.pi_q(outputs);
                 if clear {
                     let len = clear_len(self.options.fail_safe, image.len());
-                    return payloads::write::write_zeros(len, buf);
+                    write::write_zeros(len, buf)
+                } else {
+                    write::write_bytes(image, buf)
                 }
-                payloads::write::write_bytes(image, buf)
             }
         }
     }

@@ -1,14 +1,14 @@
 // The part of a peripheral's record that visits and replies change.
 ghost use Rattle.std.specs.Prelude.{◌≡◌, true};
-ghost use Rattle.station.specs.Record.{new_station, fallen, due_is, is_live, is_running, last_diagnosis, stored_part};
+ghost use Rattle.station.specs.Record.{new_station, in_state, counting, cycling, fallen, due_is, is_live, is_running, last_diagnosis, stored_part};
 
 use crate::state::PeripheralState;
 use fdl::telegram::FrameCountBit;
 use payloads::diagnosis::DiagnosticsInfo;
 
-// A balance as the master sees it; state and frame bit are numbers, so that a record can be stored to field by field.
+// A balance as the master sees it; state and frame bit are numbers, since the record has C's layout and every number is accepted. DECISIONS 20
 #[repr(C)]
-#[derive(Clone, Copy)]
+#[derive(Clone, Copy, Default)]
 pub struct Station {
     // Station address, 0 to 125 and not the master's; 0 in an empty slot.
     pub address: u8,
@@ -31,15 +31,14 @@ impl Station {
     pub fn new(address: u8) -> Station
         ensures { result ≡ new_station address }
     {
-        let diag = DiagnosticsInfo::none();
         Station {
-            address: address,
-            state: PeripheralState::Offline.number(),
+            address,
+            state: u8::from(PeripheralState::Offline),
             retry_count: 0,
-            fcb: FrameCountBit::First.number(),
+            fcb: u8::from(FrameCountBit::First),
             diag_needed: false,
             diag_len: 0,
-            diag: diag,
+            diag: DiagnosticsInfo::none(),
         }
     }
 
@@ -47,44 +46,74 @@ impl Station {
     pub fn is_live(self) -> bool
         ensures { result ≡ is_live self }
     {
-        PeripheralState::of(self.state).is_live()
+        PeripheralState::from(self.state).is_live()
     }
 
     // Whether it exchanges data: DataExchange alone.
     pub fn is_running(self) -> bool
         ensures { result ≡ is_running self }
     {
-        PeripheralState::of(self.state).is_running()
+        PeripheralState::from(self.state).is_running()
+    }
+
+    // In another state.
+    pub(crate) fn in_state(self, state: PeripheralState) -> Station
+        ensures { result ≡ in_state state self }
+    {
+        Station {
+            state: u8::from(state),
+            ..self
+        }
+    }
+
+    // With another count.
+    pub(crate) fn counting(self, retry_count: u8) -> Station
+        ensures { result ≡ counting retry_count self }
+    {
+        Station {
+            retry_count,
+            ..self
+        }
+    }
+
+    // With the frame bit cycled.
+    pub(crate) fn cycled(self) -> Station
+        ensures { result ≡ cycling self }
+    {
+        Station {
+            fcb: u8::from(FrameCountBit::from(self.fcb).cycle()),
+            ..self
+        }
     }
 
     // As a fall leaves it: Offline, and the frame bit at First, since the standard starts a connection anew.
-    pub fn fallen(self) -> Station
+    pub fn fallen(mut self) -> Station
         ensures { result ≡ fallen self }
     {
-        let mut s = self;
-        s.state = PeripheralState::Offline.number();
-        s.fcb = FrameCountBit::First.number();
-        s
+        self.state = u8::from(PeripheralState::Offline);
+        self.fcb = u8::from(FrameCountBit::First);
+        self
     }
 
     // A wish for a diagnosis: one is due from now on.
     pub fn request_diagnostics(self) -> Station
         ensures { result ≡ due_is true self }
     {
-        let mut s = self;
-        s.diag_needed = true;
-        s
+        Station {
+            diag_needed: true,
+            ..self
+        }
     }
 
     // The diagnosis held; without one, the numbers of none.
     pub fn last_diagnostics(self) -> DiagnosticsInfo
         ensures { result ≡ last_diagnosis self }
     {
-        let diag = self.diag;
-        if diag.held {
-            return diag;
+        if self.diag.held {
+            self.diag
+        } else {
+            DiagnosticsInfo::none()
         }
-        DiagnosticsInfo::none()
     }
 
     // Length of the stored extended part in bytes, 0 where no diagnosis is held.

@@ -3,62 +3,56 @@ ghost use Rattle.std.specs.Prelude.{◌≡◌};
 ghost use Rattle.station.specs.State.{number_of, state_of, live_state, running_state, event_number};
 
 // How far the set-up of a balance has come; it says what the next visit asks.
-#[derive(Clone, Copy)]
+#[derive(Clone, Copy, PartialEq, Eq)]
 pub enum PeripheralState {
-    // 0: it is new, does not respond, or rejected its set-up; a diagnosis is asked for.
-    Offline,
-    // 1: it responds; parameters (Set_Prm) are sent, and a short confirmation is awaited.
-    WaitForParam,
-    // 2: parameters are acknowledged; the configuration (Chk_Cfg) is sent, and a short confirmation awaited.
-    WaitForConfig,
-    // 3: the configuration is acknowledged, or status 3 came to data; a diagnosis decides how it goes on.
-    ValidateConfig,
-    // 4: set-up accepted; data is asked for, and no input image came yet.
-    PreDataExchange,
-    // 5: data is asked for, and an input image came since the set-up was accepted.
-    DataExchange,
+    // It is new, does not respond, or rejected its set-up; a diagnosis is asked for.
+    Offline = 0,
+    // It responds; parameters (Set_Prm) are sent, and a short confirmation is awaited.
+    WaitForParam = 1,
+    // Parameters are acknowledged; the configuration (Chk_Cfg) is sent, and a short confirmation awaited.
+    WaitForConfig = 2,
+    // The configuration is acknowledged, or status 3 came to data; a diagnosis decides how it goes on.
+    ValidateConfig = 3,
+    // Set-up accepted; data is asked for, and no input image came yet.
+    PreDataExchange = 4,
+    // Data is asked for, and an input image came since the set-up was accepted.
+    DataExchange = 5,
 }
 
 // What a visit or a reply reports.
-#[derive(Clone, Copy)]
+#[derive(Clone, Copy, PartialEq, Eq)]
 pub enum PeripheralEvent {
-    // 0: there is nothing to report.
-    NoEvent,
-    // 1: it went online: a diagnosis was taken in Offline.
-    Online,
-    // 2: it accepted parameters and configuration, and is ready for data exchange.
-    Configured,
-    // 3: it rejected the configuration (0x0004), and is Offline now.
-    ConfigError,
-    // 4: it rejected the parameters (0x0040), and is Offline now.
-    ParameterError,
-    // 5: data exchange with it completed, and what came is the input image.
-    DataExchanged,
-    // 6: the diagnosis that was due is taken, and can be read.
-    Diagnostics,
-    // 7: it stopped responding: a visit found its count above the limit.
-    Offline,
+    // There is nothing to report.
+    NoEvent = 0,
+    // It went online: a diagnosis was taken in Offline.
+    Online = 1,
+    // It accepted parameters and configuration, and is ready for data exchange.
+    Configured = 2,
+    // It rejected the configuration (0x0004), and is Offline now.
+    ConfigError = 3,
+    // It rejected the parameters (0x0040), and is Offline now.
+    ParameterError = 4,
+    // Data exchange with it completed, and what came is the input image.
+    DataExchanged = 5,
+    // The diagnosis that was due is taken, and can be read.
+    Diagnostics = 6,
+    // It stopped responding: a visit found its count above the limit.
+    Offline = 7,
 }
 
-impl PeripheralState {
-    // The number that stands for it in a record.
-    pub fn number(self) -> u8
-        ensures { result ≡ number_of self }
-    {
-        match self {
-            PeripheralState::Offline => 0,
-            PeripheralState::WaitForParam => 1,
-            PeripheralState::WaitForConfig => 2,
-            PeripheralState::ValidateConfig => 3,
-            PeripheralState::PreDataExchange => 4,
-            PeripheralState::DataExchange => 5,
-        }
-    }
+impl From<PeripheralState> for u8 {
+    ghost from_gives = { λ state n. n ≡ number_of state };
 
-    // The state of a number; a number that stands for none counts as Offline.
-    pub fn of(n: u8) -> PeripheralState
-        ensures { result ≡ state_of n }
-    {
+    fn from(state: PeripheralState) -> u8 {
+        state as u8
+    }
+}
+
+impl From<u8> for PeripheralState {
+    ghost from_gives = { λ n state. state ≡ state_of n };
+
+    // A number that stands for none counts as Offline.
+    fn from(n: u8) -> PeripheralState {
         match n {
             1 => PeripheralState::WaitForParam,
             2 => PeripheralState::WaitForConfig,
@@ -68,50 +62,28 @@ impl PeripheralState {
             _ => PeripheralState::Offline,
         }
     }
+}
 
+impl From<PeripheralEvent> for u8 {
+    ghost from_gives = { λ event n. n ≡ event_number event };
+
+    fn from(event: PeripheralEvent) -> u8 {
+        event as u8
+    }
+}
+
+impl PeripheralState {
     // Whether it responds on the bus: any state but Offline. DECISIONS 5
     pub fn is_live(self) -> bool
         ensures { result ≡ live_state self }
     {
-        match self {
-            PeripheralState::Offline => false,
-            PeripheralState::WaitForParam => true,
-            PeripheralState::WaitForConfig => true,
-            PeripheralState::ValidateConfig => true,
-            PeripheralState::PreDataExchange => true,
-            PeripheralState::DataExchange => true,
-        }
+        self != PeripheralState::Offline
     }
 
     // Whether it exchanges data: DataExchange alone. DECISIONS 5
     pub fn is_running(self) -> bool
         ensures { result ≡ running_state self }
     {
-        match self {
-            PeripheralState::Offline => false,
-            PeripheralState::WaitForParam => false,
-            PeripheralState::WaitForConfig => false,
-            PeripheralState::ValidateConfig => false,
-            PeripheralState::PreDataExchange => false,
-            PeripheralState::DataExchange => true,
-        }
-    }
-}
-
-impl PeripheralEvent {
-    // The number that stands for it in an answer.
-    pub fn number(self) -> u8
-        ensures { result ≡ event_number self }
-    {
-        match self {
-            PeripheralEvent::NoEvent => 0,
-            PeripheralEvent::Online => 1,
-            PeripheralEvent::Configured => 2,
-            PeripheralEvent::ConfigError => 3,
-            PeripheralEvent::ParameterError => 4,
-            PeripheralEvent::DataExchanged => 5,
-            PeripheralEvent::Diagnostics => 6,
-            PeripheralEvent::Offline => 7,
-        }
+        self == PeripheralState::DataExchange
     }
 }

@@ -1,6 +1,5 @@
 // The request that a state is about, and the visit that a turn makes: what it does, and the station afterwards.
 ghost use Rattle.std.specs.Prelude.{◌≡◌};
-ghost use Rattle.station.specs.Record.{one_more};
 ghost use Rattle.station.specs.Visit.{request_in, request_of, judged_as, can_send, action_of, visited_of};
 
 use crate::record::Station;
@@ -18,36 +17,22 @@ pub enum Visited {
     Skips,
 }
 
-// One more, which stays at 255.
-fn one_more(count: u8) -> u8
-    ensures { result ≡ one_more count }
-{
-    if count < 255 { count + 1 } else { 255 }
-}
-
-// In the exchange states: a diagnosis, or data.
-fn exchange_request(diagnosis: bool) -> Request
-    ensures { result ≡ request_in PeripheralState.PreDataExchange diagnosis }
-{
-    if diagnosis {
-        Request::Diagnosis
-    } else {
-        Request::Data
-    }
-}
-
 impl PeripheralState {
     // The request that the state is about; in the exchange states there are two, a diagnosis and data.
     fn request(self, diagnosis: bool) -> Request
         ensures { result ≡ request_in self diagnosis }
     {
         match self {
-            PeripheralState::Offline => Request::Diagnosis,
+            PeripheralState::Offline | PeripheralState::ValidateConfig => Request::Diagnosis,
             PeripheralState::WaitForParam => Request::Parameters,
             PeripheralState::WaitForConfig => Request::Configuration,
-            PeripheralState::ValidateConfig => Request::Diagnosis,
-            PeripheralState::PreDataExchange => exchange_request(diagnosis),
-            PeripheralState::DataExchange => exchange_request(diagnosis),
+            PeripheralState::PreDataExchange | PeripheralState::DataExchange => {
+                if diagnosis {
+                    Request::Diagnosis
+                } else {
+                    Request::Data
+                }
+            }
         }
     }
 
@@ -59,9 +44,7 @@ impl PeripheralState {
             PeripheralState::Offline => count == 0,
             PeripheralState::WaitForParam => user,
             PeripheralState::WaitForConfig => config,
-            PeripheralState::ValidateConfig => true,
-            PeripheralState::PreDataExchange => true,
-            PeripheralState::DataExchange => true,
+            _ => true,
         }
     }
 }
@@ -71,48 +54,38 @@ impl Station {
     fn request(self) -> Request
         ensures { result ≡ request_of self }
     {
-        PeripheralState::of(self.state).request(self.diag_needed)
+        PeripheralState::from(self.state).request(self.diag_needed)
     }
 
     // The request that a reply is judged to answer, where `asked` was asked: a weight that comes to a data request is never read as a diagnosis.
     pub fn judged_as(self, asked: Request) -> Request
         ensures { result ≡ judged_as asked self }
     {
-        let data = asked.is_data();
-        PeripheralState::of(self.state).request(!data)
+        PeripheralState::from(self.state).request(!asked.is_data())
     }
 
     // What a visit does; user parameters and configuration are present or not.
+    #[tactic(auto, unfolding(crate::specs::Visit::action_of))]
     pub fn action(self, limit: u8, user: bool, config: bool) -> Visited
         ensures { result ≡ action_of limit user config self }
     {
         if limit < self.retry_count {
-            return Visited::Drops;
+            Visited::Drops
+        } else if PeripheralState::from(self.state).can_send(self.retry_count, user, config) {
+            Visited::Sends(self.request())
+        } else {
+            Visited::Skips
         }
-        if PeripheralState::of(self.state).can_send(self.retry_count, user, config) {
-            return Visited::Sends(self.request());
-        }
-        Visited::Skips
     }
 
-    // The station after that visit.
+    // The station after that visit; its count stays at 255.
     pub fn visited(self, what: Visited) -> Station
         ensures { result ≡ visited_of what self }
     {
-        let mut s = self;
         match what {
-            Visited::Sends(_) => {
-                s.retry_count = one_more(self.retry_count);
-                s
-            }
-            Visited::Drops => {
-                s.retry_count = 0;
-                s.fallen()
-            }
-            Visited::Skips => {
-                s.retry_count = 0;
-                s
-            }
+            Visited::Sends(_) => self.counting(self.retry_count.saturating_add(1)),
+            Visited::Drops => self.counting(0).fallen(),
+            Visited::Skips => self.counting(0),
         }
     }
 }

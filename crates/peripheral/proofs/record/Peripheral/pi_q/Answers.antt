@@ -1,5 +1,0 @@
--- `pi_q` meets its contract: the part at the widened range.
-use Rattle.peripheral.proofs.record.Peripheral.pi_q.Goals as goal
-
-pub returns : goal.returns
-returns c = rw (← c.widen16.ensures.0, ← c.widen8.ensures.0) c.part.ensures
