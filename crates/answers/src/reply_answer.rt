@@ -93,7 +93,7 @@ pub fn judge(
             answer: ReplyAnswer::refused(u8::from(refusal)),
         };
     }
-    let r = p.receive_reply(Request::of(s.open_kind), telegram, payload, inputs, diags);
+    let r = p.receive_reply(Request::from(s.open_kind), telegram, payload, inputs, diags);
     let next = peripheral_set::next_after(marks, cycle::seen::index(s.open_slot));
     Judged {
         peripheral: r.peripheral,

@@ -194,7 +194,7 @@ impl DpMasterState {
                 None => s.place_is(0, false),
                 Some(sent) => DpMasterState {
                     open_slot: sent.slot,
-                    open_kind: sent.kind.number(),
+                    open_kind: u8::from(sent.kind),
                     ..s.place_is(sent.slot, false)
                 },
             },

@@ -22,4 +22,4 @@ returns c = let a = c.args in
     let n = rw c.index.ensures.0 at c.next_after-next.ensures in
     let none = none_told (next_of a.marks.now a.s) _ (rw n at c.is_none.ensures) in
     let after = rw n at c.answered.ensures in
-    rw (eq-eqb _ _ (done_is _ (sym e ∙ c.in_default.is)), after, answered_at (next_of a.marks.now a.s) a.s, none, c.event_handle.ensures, c.receive_reply-r.ensures, c.of.ensures, c.address-2.ensures) refl
+    rw (eq-eqb _ _ (done_is _ (sym e ∙ c.in_default.is)), after, answered_at (next_of a.marks.now a.s) a.s, none, c.event_handle.ensures, c.receive_reply-r.ensures, c.from-2.ensures, c.address-2.ensures) refl
