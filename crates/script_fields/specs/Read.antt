@@ -69,7 +69,7 @@ number_at limit s at = do
   number_from limit s first
 
 -- the same as a flag
-unfoldable pub flag_at : List ℕ → ℕ → Option (Field Bool)
+abbrev pub flag_at : List ℕ → ℕ → Option (Field Bool)
 flag_at s at = do
   n ← number_at 1 s at
   Some (record { value = n.value == 1; next = n.next })

@@ -133,7 +133,6 @@ impl<'a> Reader<'a> {
     }
 
     // A flag after a space: `0` or `1`.
-    #[tactic(auto, unfolding(crate::specs::Read::flag_at))]
     pub fn flag(&mut self) -> Option<bool>
         ensures field { with_place result self.new.at ≡ flag_at self.old.line.now self.old.at }
         ensures wrong { IfNone result (self.new.at ≡ behind_space self.old.line.now self.old.at) }
