@@ -100,6 +100,7 @@ pub const MOST_PAYLOAD: u16 = 300;
 // The most entries of the list array that L lends: all of it.
 pub const MOST_ENTRIES: u16 = 40;
 
+// N: what a unit is created with.
 #[tactic(auto, unfolding(crate::specs::Making::parameters_at))]
 fn parameters(r: &mut Reader) -> Option<Parameters>
     ensures field { with_place result r.new.at ≡ parameters_at r.old.line.now r.old.at }
@@ -120,6 +121,7 @@ fn parameters(r: &mut Reader) -> Option<Parameters>
     })
 }
 
+// L: the lent lengths.
 #[tactic(auto, unfolding(crate::specs::Making::lent_at))]
 fn lengths(r: &mut Reader) -> Option<Lent>
     ensures field { with_place result r.new.at ≡ lent_at r.old.line.now r.old.at }
@@ -135,6 +137,7 @@ fn lengths(r: &mut Reader) -> Option<Lent>
     })
 }
 
+// X, Q, W, I, O and G: slot and address at issue.
 #[tactic(auto, unfolding(crate::specs::Handles::handle_at))]
 fn handle(r: &mut Reader) -> Option<PeripheralHandle>
     ensures field { with_place result r.new.at ≡ handle_at r.old.line.now r.old.at }
@@ -146,6 +149,7 @@ fn handle(r: &mut Reader) -> Option<PeripheralHandle>
     })
 }
 
+// A: what is added; the user parameters go to the front of `a`, the configuration to that of `b`.
 #[tactic(auto, unfolding(crate::specs::Adding::add_call, crate::specs::Adding::user_bytes, crate::specs::Adding::config_bytes))]
 fn add(r: &mut Reader, a: &mut [u8; 255], b: &mut [u8; 255]) -> Option<Call>
     ensures field { with_place result r.new.at ≡ add_call r.old.line.now r.old.at }
@@ -212,6 +216,7 @@ fn telegram_of(kind: u64, dsap: u8, ssap: u8, status: u8, len: usize) -> Option<
     }
 }
 
+// R: what came and from whom; the payload goes to the front of `a`.
 #[tactic(auto, unfolding(crate::specs::Running::reply_call, crate::specs::Running::reply_bytes))]
 fn reply(r: &mut Reader, a: &mut [u8; 255]) -> Option<Call>
     ensures field { with_place result r.new.at ≡ reply_call r.old.line.now r.old.at }
