@@ -386,7 +386,9 @@ fn line(
     let mut a = [0u8; 255];
     let mut b = [0u8; 255];
     let asked = script_lines::parse(s, &mut a, &mut b);
-    let call = script_driver::run::call_made(run.made, long, asked);
+    let Some(call) = script_driver::run::call_made(run.made, long, asked) else {
+        return unknown(run, out, at);
+    };
     if let Call::New(p) = call {
         calls::clear(setup, inputs, outputs, diags, payload, list);
         return new(p, out, at);

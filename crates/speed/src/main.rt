@@ -25,6 +25,7 @@ use crate::balance::Answer;
 use answers::turn::Transmission;
 use master::unit::DpMaster;
 use peripheral_set::PeripheralHandle;
+use script_fields::read::Reader;
 use std::io::{self, Read};
 
 // The unit and the sum so far.
@@ -266,18 +267,22 @@ fn run(all: bool, balances: u8, rounds: u32) -> u32 {
     )
 }
 
+// What a line asks for: the mode, how many balances, at least one, and how many rounds.
+fn asked(s: &[u8]) -> Option<(u64, u8, u32)> {
+    let mut r = Reader { line: s, at: 0 };
+    let mode = r.digits(1)?;
+    let balances = r.number(32)? as u8;
+    let rounds = r.number(4294967295)? as u32;
+    (r.ends() && balances > 0).then_some((mode, balances, rounds))
+}
+
 fn line(s: &[u8], out: &mut [u8]) -> usize {
-    let mode = script_fields::read::digits(s, 0, 1);
-    let balances = script_fields::read::small(s, mode.next, 32);
-    let rounds = script_fields::read::word(s, balances.next, 4294967295);
-    if script_fields::read::ends(s, rounds.next) {
-        if 0 < balances.value {
-            let h = run(mode.value == 0, balances.value, rounds.value);
-            let at = script_fields::write::number(out, 0, h as u64);
-            return script_fields::write::put(out, at, b'\n');
-        }
-    }
-    script_answers::bare(out, 0, b'?')
+    let Some((mode, balances, rounds)) = asked(s) else {
+        return script_answers::bare(out, 0, b'?');
+    };
+    let h = run(mode == 0, balances, rounds);
+    let at = script_fields::write::number(out, 0, u64::from(h));
+    script_fields::write::put(out, at, b'\n')
 }
 
 // The line without its newline.
