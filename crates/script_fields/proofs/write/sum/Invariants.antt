@@ -1,12 +1,9 @@
--- `sum` meets its contract. The loop's invariant: what is left to sum gives the whole.
+-- `sum` meets its contract. The loop's invariant: the sum of what was gone over, below the modulus.
 use mathlib.Core.Path.{◌≡◌}
-use Prim.Native.Nat.{◌-◌, ◌≤◌, ◌<◌}
-use lib.ListN.{length, drop}
-use Rattle.script_fields.specs.Write.{sum_from}
+use Prim.Native.Nat.{◌<◌}
+use lib.ListN.{take}
+use Rattle.script_fields.specs.Write.{sum_of}
 use Rattle.script_fields.proofs.write.sum.Given as goal
 
-abbrev pub invariant-loop-i : goal.invariant-loop-i
-invariant-loop-i l = (l.i ≤ length l.list) × (l.h < 1000000007) × (sum_from l.h (drop l.i l.list) ≡ sum_from 1 l.list)
-
-abbrev pub decreases-loop-i : goal.decreases-loop-i
-decreases-loop-i l = length l.list - l.i
+abbrev pub invariant-loop-b : goal.invariant-loop-b
+invariant-loop-b l = (l.h ≡ sum_of (take l.b-index l.list)) × (l.h < 1000000007)
