@@ -2,7 +2,7 @@
 -- The idea: a loop's invariant says that what is left to do gives the whole, so each law is one step of a definition, at any place of a list.
 use mathlib.Core.Path.{◌≡◌, refl, sym, ap, ◌∙◌, subst}
 use mathlib.Core.List.{List, [], ◌∷◌, ◌++◌}
-use Prim.Native.Nat.{ℕ, zero, suc, ◌+◌, ◌-◌, ◌/◌, ◌^◌, ◌≤◌, ◌<◌}
+use Prim.Native.Nat.{ℕ, zero, suc, ◌+◌, ◌/◌, ◌^◌, ◌≤◌, ◌<◌}
 use native.Mathlib.Numerals.{add-one}
 use native.Mathlib.Omega.{arith}
 use lib.ListN.{length, get_or, take, drop, set, drop_of_length-le}
@@ -16,7 +16,7 @@ use Rattle.std.proofs.lemmas.Bool.Decides.{nat_tests}
 use Rattle.parts.proofs.Laws.{by_test}
 use lib.Dec.{ltb}
 use Rattle.script_fields.specs.declared.write.Text.{Text}
-use Rattle.script_fields.specs.Written.{Wrote}
+use Rattle.script_fields.specs.Write.{Wrote, with_out}
 use Rattle.script_fields.specs.Write.{Out, standing, put, written, decimal_in, decimal, digit_of, hex_text, bytes_text}
 
 -- ---- lists
@@ -46,13 +46,12 @@ written-append (x ∷ a) b o = written-append a b (put x o)
 -- nothing
 pub wrote-none : {t : Text} → Wrote [] t t
 unfolding written
-wrote-none = record { same_buffer = refl; bytes = refl }
+wrote-none = record { text = refl }
 
 -- a, and then b
 pub then : {a b : List ℕ} {o x y : Text} → Wrote a o x → Wrote b x y → Wrote (a ++ b) o y
 then {a = a} {b = b} {o = o} p q = record {
-  same_buffer = q.same_buffer ∙ p.same_buffer;
-  bytes = q.bytes ∙ ap (written b) p.bytes ∙ sym (written-append a b (standing o.at o.out.now));
+  text = q.text ∙ ap (λ (x : Text). with_out x (written b (standing x.at x.out.now))) p.text ∙ ap (with_out o) (sym (written-append a b (standing o.at o.out.now)));
 }
 
 -- of the texts that f makes of a list, one more

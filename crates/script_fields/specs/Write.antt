@@ -1,6 +1,8 @@
 -- The fields of an answer as bytes, and how they come into a buffer. From docs/SCRIPTS.md, "Fields" and "Answers" (checksum).
+use Rattle.std.specs.Int.{from_bool}
 use Rattle.std.specs.List.{fold, flat_map}
-use Rattle.std.specs.Prelude.{ℕ, zero, suc, ◌+◌, ◌*◌, ◌/◌, ◌%◌, Bool, true, false, cond, List, [], ◌∷◌, ◌++◌, length, set, ltb}
+use Rattle.std.specs.Prelude.{◌≡◌, ℕ, zero, suc, ◌+◌, ◌*◌, ◌/◌, ◌%◌, Bool, cond, List, [], ◌∷◌, ◌++◌, length, set, ltb}
+use Rattle.script_fields.specs.declared.write.Text.{Text}
 
 -- ---- an output buffer
 
@@ -21,6 +23,14 @@ unfoldable pub written : List ℕ → Out → Out
 written [] o = o
 written (b ∷ w) o = written w (put b o)
 
+-- the same lent buffer with other bytes, and another place
+abbrev pub with_out : Text → Out → Text
+with_out t o = record { out = record t.out { now = o.bytes }; at = o.at }
+
+-- what a function promises that writes w behind the place of old; the buffer stays the same one
+pub record Wrote (w : List ℕ) (old new : Text) : Type 0 where
+  pub text : new ≡ with_out old (written w (standing old.at old.out.now))
+
 -- ---- what is written
 
 -- the last decimal digit
@@ -36,10 +46,9 @@ decimal_in (suc k) n = cond (ltb n 10) (digit_of n ∷ []) (decimal_in k (n / 10
 abbrev pub decimal : ℕ → List ℕ
 decimal n = decimal_in 20 n
 
--- a flag
+-- a flag: 1 where it is set, else 0
 abbrev pub flag_number : Bool → ℕ
-flag_number true = 1
-flag_number false = 0
+flag_number b = from_bool b
 
 -- a number after a space
 abbrev pub field_text : ℕ → List ℕ

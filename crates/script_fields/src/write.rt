@@ -1,7 +1,7 @@
 // The fields of an answer, written behind a place of a lent buffer.
 // What the buffer has no room for is left out, byte by byte.
 ghost use Rattle.std.specs.Prelude.{◌≡◌, [], ◌∷◌, ◌<◌};
-ghost use Rattle.script_fields.specs.Write.{digit_of, flag_number, hex_digit, sum_of};
+ghost use Rattle.script_fields.specs.Write.{Wrote, decimal, field_text, fields_text, hex_digit, hex_text, bytes_text, sum_step, sum_from, sum_of};
 
 // A lent buffer, and the place behind the last byte that was written.
 #[derive(Drop)]
@@ -13,9 +13,6 @@ pub struct Text<'a> {
 }
 
 impl Text<'_> {
-    ghost use Rattle.script_fields.specs.Written.{Wrote};
-    ghost use Rattle.script_fields.specs.Write.{decimal, field_text, fields_text, hex_text, bytes_text};
-
     // One byte; where there is no room for it, nothing.
     pub fn put(&mut self, b: u8)
         ensures { Wrote (b ∷ []) self.old self.new }
@@ -33,7 +30,7 @@ impl Text<'_> {
         if n >= 10 {
             self.number(n / 10);
         }
-        self.put(digit(n));
+        self.put(b'0' + (n % 10) as u8);
     }
 
     // A space and a number.
@@ -76,13 +73,6 @@ impl Text<'_> {
     }
 }
 
-// The last decimal digit.
-fn digit(n: u64) -> u8
-    ensures { result ≡ digit_of n }
-{
-    b'0' + (n % 10) as u8
-}
-
 // A hex digit.
 fn hex(d: u8) -> u8
     requires { d < 16 }
@@ -91,13 +81,25 @@ fn hex(d: u8) -> u8
     if d < 10 { b'0' + d } else { b'a' - 10 + d }
 }
 
-// The checksum: h = (h * 256 + byte) mod 1000000007 over all bytes, from 1 on.
+// The sum with one number more: h = (h * 256 + n) mod 1000000007.
+#[inline]
+pub fn sum_step(h: u32, n: u32) -> u32
+    ensures { result ≡ sum_step h n }
+{
+    ((u64::from(h) * 256 + u64::from(n)) % 1000000007) as u32
+}
+
+// The sum with each byte of a list mixed in, in order.
+#[inline]
+pub fn sum_from(h: u32, list: &[u8]) -> u32
+    ensures { result ≡ sum_from h list.now }
+{
+    list.iter().fold(h, |h, &b| sum_step(h, u32::from(b)))
+}
+
+// The checksum: the sum over all bytes, from 1 on.
 pub fn sum(list: &[u8]) -> u64
     ensures { result ≡ sum_of list.now }
 {
-    let mut h: u64 = 1;
-    for &b in list {
-        h = (h * 256 + u64::from(b)) % 1000000007;
-    }
-    h
+    u64::from(sum_from(1, list))
 }

@@ -1,8 +1,7 @@
 -- `fields` meets its contract. The loop's invariant: what was gone over is written.
 use lib.ListN.{take}
 use Rattle.std.specs.List.{flat_map}
-use Rattle.script_fields.specs.Write.{field_text}
-use Rattle.script_fields.specs.Written.{Wrote}
+use Rattle.script_fields.specs.Write.{Wrote, field_text}
 use Rattle.script_fields.proofs.write.Text.fields.Given as goal
 
 abbrev pub invariant-loop-n : goal.invariant-loop-n

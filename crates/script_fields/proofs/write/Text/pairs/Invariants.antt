@@ -1,8 +1,7 @@
 -- `pairs` meets its contract. The loop's invariant: what was gone over is written.
 use lib.ListN.{take}
 use Rattle.std.specs.List.{flat_map}
-use Rattle.script_fields.specs.Write.{hex_pair}
-use Rattle.script_fields.specs.Written.{Wrote}
+use Rattle.script_fields.specs.Write.{Wrote, hex_pair}
 use Rattle.script_fields.proofs.write.Text.pairs.Given as goal
 
 abbrev pub invariant-loop-b : goal.invariant-loop-b
