@@ -60,6 +60,10 @@ one_more f l i {o = o} {y = y} h p q =
     let e : flat_map f (take (i + 1) l) ≡ flat_map f (take i l) ++ f (get_or l i 0) = grind (arith, common_steps) in
     subst (λ (w : List ℕ). Wrote w o y) (sym e) (then p q)
 
+-- none is left
+pub whole_list : (f : ℕ → List ℕ) (l : List ℕ) (i : ℕ) {o x : Text} → length l ≤ i → Wrote (flat_map f (take i l)) o x → Wrote (flat_map f l) o x
+whole_list f l i h p = let e : take i l ≡ l = grind (arith, common_steps) in rw e at p
+
 -- ---- numbers
 
 -- room for one digit more changes nothing
