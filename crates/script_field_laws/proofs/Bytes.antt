@@ -45,7 +45,7 @@ pair_back b l h =
 
 -- as many bytes as were written are read, where no pair follows them
 pub pairs_back : (k : ℕ) (l rest : List ℕ) → all_bytes l ≡ true → length l ≤ k → is_pair rest ≡ false → pairs_of k (hex_text l ++ rest) ≡ l
-unfolding pairs_of
+unfolding hex_text pairs_of
 pairs_back zero [] rest a n e = refl
 pairs_back zero (b ∷ l) rest a n e = absurd (omega arith)
 pairs_back (suc k) [] rest a n e = rw e
@@ -56,13 +56,14 @@ pairs_back (suc k) (b ∷ l) rest a n e =
     (ap (λ (x : List ℕ). b ∷ x) (pairs_back k l rest (all_bytes_rest b l a) (omega arith) e))
 
 hex_length : (l : List ℕ) → length (hex_text l) ≡ 2 * length l
+unfolding hex_text
 hex_length [] = refl
 hex_length (b ∷ l) = let e = hex_length l in omega arith
 
 -- the array gets the bytes that were written
 pub array_back : (s : List ℕ) (at : ℕ) (l rest : List ℕ) → all_bytes l ≡ true → length l ≤ most → is_pair rest ≡ false → Holds s at (bytes_text l) rest
     → pairs_at s (right at) ≡ l
-unfolding pairs_at pairs_on
+unfolding pairs_at pairs_on hex_text
 array_back s at [] rest a n e q =
     rw (space_there s at (45 ∷ []) rest q, has_there s (at + 1) 45 rest (behind_it s at 32 (45 ∷ rest) q))
 array_back s at (b ∷ l) rest a n e q =
@@ -73,7 +74,7 @@ array_back s at (b ∷ l) rest a n e q =
 -- and the field says how many there are, and where the line goes on
 pub bytes_back : (s : List ℕ) (at : ℕ) (l rest : List ℕ) → all_bytes l ≡ true → length l ≤ most → is_pair rest ≡ false → Holds s at (bytes_text l) rest
     → bytes_at s (right at) ≡ some_bytes (length l) (at + 1 + length (bytes_text l))
-unfolding bytes_at bytes_on
+unfolding bytes_at bytes_on hex_text
 bytes_back s at [] rest a n e q =
     rw (space_there s at (45 ∷ []) rest q, has_there s (at + 1) 45 rest (behind_it s at 32 (45 ∷ rest) q))
 bytes_back s at (b ∷ l) rest a n e q =

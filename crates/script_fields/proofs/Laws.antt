@@ -17,7 +17,7 @@ use Rattle.parts.proofs.Laws.{by_test}
 use lib.Dec.{ltb}
 use Rattle.script_fields.specs.declared.write.Text.{Text}
 use Rattle.script_fields.specs.Write.{Wrote, with_out}
-use Rattle.script_fields.specs.Write.{Out, standing, put, written, decimal_in, decimal, digit_of, hex_text, bytes_text}
+use Rattle.script_fields.specs.Write.{Out, standing, put, written, decimal_in, decimal, digit_of, field_text, fields_text, hex_text, bytes_text}
 
 -- ---- lists
 
@@ -63,6 +63,14 @@ one_more f l i {o = o} {y = y} h p q =
 -- none is left
 pub whole_list : (f : ℕ → List ℕ) (l : List ℕ) (i : ℕ) {o x : Text} → length l ≤ i → Wrote (flat_map f (take i l)) o x → Wrote (flat_map f l) o x
 whole_list f l i h p = let e : take i l ≡ l = grind (arith, common_steps) in rw e at p
+
+pub all_fields : (l : List ℕ) (i : ℕ) {o x : Text} → length l ≤ i → Wrote (flat_map field_text (take i l)) o x → Wrote (fields_text l) o x
+unfolding fields_text
+all_fields l i h p = whole_list field_text l i h p
+
+-- the fields of equal numbers
+pub fields : {l m : List ℕ} {o x : Text} → l ≡ m → Wrote (fields_text l) o x → Wrote (fields_text m) o x
+fields {o = o} {x = x} e p = subst (λ (n : List ℕ). Wrote (fields_text n) o x) e p
 
 -- ---- numbers
 

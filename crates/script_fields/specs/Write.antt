@@ -55,7 +55,7 @@ abbrev pub field_text : ℕ → List ℕ
 field_text n = 32 ∷ decimal n
 
 -- numbers, each after a space
-abbrev pub fields_text : List ℕ → List ℕ
+unfoldable pub fields_text : List ℕ → List ℕ
 fields_text l = flat_map field_text l
 
 -- a lower-case hex digit
@@ -67,7 +67,7 @@ abbrev pub hex_pair : ℕ → List ℕ
 hex_pair b = hex_digit (b / 16) ∷ hex_digit (b % 16) ∷ []
 
 -- nothing between
-abbrev pub hex_text : List ℕ → List ℕ
+unfoldable pub hex_text : List ℕ → List ℕ
 hex_text l = flat_map hex_pair l
 
 -- BYTES: no bytes at all is `-`

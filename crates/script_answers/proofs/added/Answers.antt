@@ -1,7 +1,7 @@
 -- `added` meets its contract: the number alone, or the handle behind a 0.
 use borrow.Author.Tests.{eq-eqb, ne_eqb}
 use Rattle.script_answers.specs.Answer.{added_text}
-use Rattle.script_fields.proofs.Laws.{then}
+use Rattle.script_fields.proofs.Laws.{then, fields}
 use Rattle.script_answers.proofs.added.Goals as goal
 
 pub returns-then-refusal-ne0 : goal.returns-then-refusal-ne0
@@ -10,4 +10,4 @@ returns-then-refusal-ne0 c = rw (ne_eqb _ _ c.if-refusal-ne0.true) (rw c.from.en
 
 pub returns : goal.returns
 unfolding added_text
-returns c = rw (eq-eqb _ _ c.if-refusal-ne0.false) (then c.put.ensures (then (simp (c.from-2.ensures, c.from-3.ensures) at c.fields.ensures) c.put-2.ensures))
+returns c = rw (eq-eqb _ _ c.if-refusal-ne0.false) (then c.put.ensures (then (fields (cc) c.fields.ensures) c.put-2.ensures))

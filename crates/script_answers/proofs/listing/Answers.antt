@@ -1,7 +1,7 @@
 -- `listing` meets its contract: two numbers, the entries, the sum, the newline. The loop's invariant: the entries gone over are written.
 use Rattle.script_fields.specs.Write.{field_text}
 use Rattle.script_answers.specs.Answer.{listing_text}
-use Rattle.script_fields.proofs.Laws.{wrote-none, then, one_more, whole_list}
+use Rattle.script_fields.proofs.Laws.{wrote-none, then, one_more, all_fields, fields}
 use Rattle.script_answers.proofs.listing.Goals as goal
 
 pub loop-b-init : goal.loop-b-init
@@ -12,5 +12,5 @@ loop-b-preserved c = one_more field_text _ _ c.loop-b-test.true c.loop-b.invaria
 
 pub returns : goal.returns
 unfolding listing_text
-returns c = then c.put.ensures (then (rw c.from.ensures at c.fields.ensures)
-    (then (whole_list field_text _ _ c.loop-b-test.false c.loop-b.invariant) (then (rw c.sum.ensures at c.field-2.ensures) c.put-2.ensures)))
+returns c = then c.put.ensures (then (fields (cc) c.fields.ensures)
+    (then (all_fields _ _ c.loop-b-test.false c.loop-b.invariant) (then (rw c.sum.ensures at c.field-2.ensures) c.put-2.ensures)))

@@ -1,9 +1,9 @@
 -- `turn` meets its contract: seven numbers, what was sent, the newline.
 use Rattle.script_answers.specs.Answer.{turn_text}
-use Rattle.script_fields.proofs.Laws.{then}
+use Rattle.script_fields.proofs.Laws.{then, fields}
 use Rattle.script_answers.proofs.turn.Goals as goal
 
 pub returns : goal.returns
 unfolding turn_text
 returns c = then c.put.ensures
-    (then (simp (c.from.ensures, c.from-2.ensures, c.from-3.ensures, c.from-4.ensures, c.from-5.ensures, c.number.ensures, c.sent.ensures) at c.fields.ensures) (then c.transmission.ensures c.put-2.ensures))
+    (then (fields (cc) c.fields.ensures) (then c.transmission.ensures c.put-2.ensures))
