@@ -1,23 +1,22 @@
 -- The laws of reading and writing that the proofs here cite.
--- The idea: a loop's invariant says that what is left to do gives the whole, so each law is one step of a definition, at any place of a list.
+-- The idea: where a loop reads, what is left to do gives the whole; where it writes, what was gone over is written. So each law is one step of a definition, at any place of a list.
 use mathlib.Core.Path.{◌≡◌, refl, sym, ap, ◌∙◌, subst}
+use mathlib.Core.Bool.{true, false}
 use mathlib.Core.List.{List, [], ◌∷◌, ◌++◌}
 use Prim.Native.Nat.{ℕ, zero, suc, ◌+◌, ◌/◌, ◌^◌, ◌≤◌, ◌<◌}
 use native.Mathlib.Numerals.{add-one}
 use native.Mathlib.Omega.{arith}
+use lib.Dec.{ltb}
 use lib.ListN.{length, get_or, take, drop, set, drop_of_length-le}
 use lib.Seq.{drop-cons}
 use borrow.Author.Tests.{lt-ltb, le-ltb}
-use mathlib.Core.Bool.{true, false}
 use Rattle.std.specs.Bool.{◌==◌}
 use Rattle.std.specs.List.{flat_map}
-use Rattle.std.proofs.lemmas.Grind.{common_steps, pow_more}
 use Rattle.std.proofs.lemmas.Bool.Decides.{nat_tests}
+use Rattle.std.proofs.lemmas.Grind.{common_steps, pow_more}
 use Rattle.parts.proofs.Laws.{by_test}
-use lib.Dec.{ltb}
 use Rattle.script_fields.specs.declared.write.Text.{Text}
-use Rattle.script_fields.specs.Write.{Wrote, with_out}
-use Rattle.script_fields.specs.Write.{Out, standing, put, written, decimal_in, decimal, digit_of, field_text, fields_text, hex_text, bytes_text}
+use Rattle.script_fields.specs.Write.{Out, standing, put, written, with_out, Wrote, digit_of, decimal_in, decimal, field_text, fields_text, hex_text, bytes_text}
 
 -- ---- lists
 
@@ -44,9 +43,9 @@ written-append [] b o = refl
 written-append (x ∷ a) b o = written-append a b (put x o)
 
 -- nothing
-pub wrote-none : {t : Text} → Wrote [] t t
+pub wrote_none : {t : Text} → Wrote [] t t
 unfolding written
-wrote-none = record { text = refl }
+wrote_none = record { text = refl }
 
 -- a, and then b
 pub then : {a b : List ℕ} {o x y : Text} → Wrote a o x → Wrote b x y → Wrote (a ++ b) o y

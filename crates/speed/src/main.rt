@@ -275,10 +275,11 @@ fn line(s: &[u8], out: &mut Text) {
         if 0 < balances.value {
             let h = run(mode.value == 0, balances.value, rounds.value);
             out.number(u64::from(h));
-            return out.put(b'\n');
+            out.put(b'\n');
+            return;
         }
     }
-    script_answers::bare(out, b'?')
+    script_answers::bare(out, b'?');
 }
 
 // The line without its newline.
