@@ -355,7 +355,8 @@ fn flush(rt: &impl Print, out: &Text) -> io::Result<()> {
 
 // Writes what waits where there is no room behind it for every answer: the next one then goes to the front.
 fn flushed(rt: &impl Print, out: &mut Text) -> io::Result<()>
-    ensures { OnOk result (out.new.at ≡ next_at (length out.old.out.now) out.old.at) }
+    ensures { OnOk result
+        (out.new ≡ record out.old { at = next_at (length out.old.out.now) out.old.at }) }
 {
     let next = script_driver::room::next_at(out.out.len(), out.at);
     if next < out.at {
