@@ -8,7 +8,6 @@ use Rattle.std.specs.Prelude.{Option, Some, None, IfNone, option_map, unwrap_or}
 use Rattle.std.specs.Option.{option_map_or}
 use Rattle.script_fields.specs.declared.read.Reader.{Reader}
 use Rattle.script_fields.specs.Read.{with_place}
-use Rattle.script_fields.specs.Write.{Out, standing}
 use Rattle.coincide.specs.Coincide.{Coincide}
 use Rattle.coincide.proofs.Law.{same}
 use Rattle.script_fields.proofs.read.Reader.digits.Kinds as K·read-Reader-digits
@@ -25,28 +24,22 @@ use Rattle.script_fields.proofs.read.Reader.setup.Kinds as K·read-Reader-setup
 use Rattle.script_fields.proofs.read.Reader.setup.Reads as R·read-Reader-setup
 use Rattle.script_fields.proofs.read.Reader.ends.Kinds as K·read-Reader-ends
 use Rattle.script_fields.proofs.read.Reader.ends.Reads as R·read-Reader-ends
-use Rattle.script_fields.proofs.write.wide.Kinds as K·write-wide
-use Rattle.script_fields.proofs.write.wide.Reads as R·write-wide
-use Rattle.script_fields.proofs.write.put.Kinds as K·write-put
-use Rattle.script_fields.proofs.write.put.Reads as R·write-put
-use Rattle.script_fields.proofs.write.number.Kinds as K·write-number
-use Rattle.script_fields.proofs.write.number.Reads as R·write-number
-use Rattle.script_fields.proofs.write.flag.Kinds as K·write-flag
-use Rattle.script_fields.proofs.write.flag.Reads as R·write-flag
-use Rattle.script_fields.proofs.write.field.Kinds as K·write-field
-use Rattle.script_fields.proofs.write.field.Reads as R·write-field
-use Rattle.script_fields.proofs.write.fields.Kinds as K·write-fields
-use Rattle.script_fields.proofs.write.fields.Reads as R·write-fields
-use Rattle.script_fields.proofs.write.byte_fields.Kinds as K·write-byte-fields
-use Rattle.script_fields.proofs.write.byte_fields.Reads as R·write-byte-fields
-use Rattle.script_fields.proofs.write.bytes.Kinds as K·write-bytes
-use Rattle.script_fields.proofs.write.bytes.Reads as R·write-bytes
+use Rattle.script_fields.proofs.write.Text.put.Kinds as K·write-put
+use Rattle.script_fields.proofs.write.Text.put.Reads as R·write-put
+use Rattle.script_fields.proofs.write.Text.number.Kinds as K·write-number
+use Rattle.script_fields.proofs.write.Text.number.Reads as R·write-number
+use Rattle.script_fields.proofs.write.Text.field.Kinds as K·write-field
+use Rattle.script_fields.proofs.write.Text.field.Reads as R·write-field
+use Rattle.script_fields.proofs.write.Text.fields.Kinds as K·write-fields
+use Rattle.script_fields.proofs.write.Text.fields.Reads as R·write-fields
+use Rattle.script_fields.proofs.write.Text.bytes.Kinds as K·write-bytes
+use Rattle.script_fields.proofs.write.Text.bytes.Reads as R·write-bytes
+use Rattle.script_fields.proofs.write.sum_step.Kinds as K·write-sum-step
+use Rattle.script_fields.proofs.write.sum_step.Reads as R·write-sum-step
+use Rattle.script_fields.proofs.write.sum_from.Kinds as K·write-sum-from
+use Rattle.script_fields.proofs.write.sum_from.Reads as R·write-sum-from
 use Rattle.script_fields.proofs.write.sum.Kinds as K·write-sum
 use Rattle.script_fields.proofs.write.sum.Reads as R·write-sum
-
--- a place and a buffer that stand as one are one each
-pub both : {z y : ℕ} {a b : List ℕ} → standing z a ≡ standing y b → (z ≡ y) × (a ≡ b)
-both w = (ap (λ (o : Out). o.at) w, ap (λ (o : Out). o.bytes) w)
 
 -- readers of one line at one place are one
 reader : (x w : Reader) → x.line ≡ w.line → x.at ≡ w.at → x ≡ w
@@ -91,29 +84,26 @@ read-Reader-setup κs a z y e f p q =
 pub read-Reader-ends : Coincide 2 K·read-Reader-ends.ps K·read-Reader-ends.r R·read-Reader-ends.Learnt (λ κs z y e f. z ≡ y)
 read-Reader-ends κs a z y e f p q = same p q
 
-pub write-wide : Coincide 0 K·write-wide.ps K·write-wide.r R·write-wide.Learnt (λ κs z y e f. z ≡ y)
-write-wide κs a z y e f p q = same p.0 q.0
+pub write-put : Coincide 2 K·write-put.ps K·write-put.r R·write-put.Learnt (λ κs z y e f. e.0.now ≡ f.0.now)
+write-put κs a z y e f p q = same p.text q.text
 
-pub write-put : Coincide 1 K·write-put.ps K·write-put.r R·write-put.Learnt (λ κs z y e f. (z ≡ y) × (e.0.now ≡ f.0.now))
-write-put κs a z y e f p q = both (same p q)
+pub write-number : Coincide 2 K·write-number.ps K·write-number.r R·write-number.Learnt (λ κs z y e f. e.0.now ≡ f.0.now)
+write-number κs a z y e f p q = same p.text q.text
 
-pub write-number : Coincide 1 K·write-number.ps K·write-number.r R·write-number.Learnt (λ κs z y e f. (z ≡ y) × (e.0.now ≡ f.0.now))
-write-number κs a z y e f p q = both (same p q)
+pub write-field : Coincide 2 K·write-field.ps K·write-field.r R·write-field.Learnt (λ κs z y e f. e.0.now ≡ f.0.now)
+write-field κs a z y e f p q = same p.text q.text
 
-pub write-flag : Coincide 0 K·write-flag.ps K·write-flag.r R·write-flag.Learnt (λ κs z y e f. z ≡ y)
-write-flag κs a z y e f p q = same p q
+pub write-fields : Coincide 3 K·write-fields.ps K·write-fields.r R·write-fields.Learnt (λ κs z y e f. e.0.now ≡ f.0.now)
+write-fields κs a z y e f p q = same p.text q.text
 
-pub write-field : Coincide 1 K·write-field.ps K·write-field.r R·write-field.Learnt (λ κs z y e f. (z ≡ y) × (e.0.now ≡ f.0.now))
-write-field κs a z y e f p q = both (same p q)
+pub write-bytes : Coincide 3 K·write-bytes.ps K·write-bytes.r R·write-bytes.Learnt (λ κs z y e f. e.0.now ≡ f.0.now)
+write-bytes κs a z y e f p q = same p.text q.text
 
-pub write-fields : Coincide 2 K·write-fields.ps K·write-fields.r R·write-fields.Learnt (λ κs z y e f. (z ≡ y) × (e.0.now ≡ f.0.now))
-write-fields κs a z y e f p q = both (same p q)
+pub write-sum_step : Coincide 0 K·write-sum-step.ps K·write-sum-step.r R·write-sum-step.Learnt (λ κs z y e f. z ≡ y)
+write-sum_step κs a z y e f p q = same p q
 
-pub write-byte_fields : Coincide 2 K·write-byte-fields.ps K·write-byte-fields.r R·write-byte-fields.Learnt (λ κs z y e f. (z ≡ y) × (e.0.now ≡ f.0.now))
-write-byte_fields κs a z y e f p q = both (same p q)
-
-pub write-bytes : Coincide 2 K·write-bytes.ps K·write-bytes.r R·write-bytes.Learnt (λ κs z y e f. (z ≡ y) × (e.0.now ≡ f.0.now))
-write-bytes κs a z y e f p q = both (same p q)
+pub write-sum_from : Coincide 1 K·write-sum-from.ps K·write-sum-from.r R·write-sum-from.Learnt (λ κs z y e f. z ≡ y)
+write-sum_from κs a z y e f p q = same p q
 
 pub write-sum : Coincide 1 K·write-sum.ps K·write-sum.r R·write-sum.Learnt (λ κs z y e f. z ≡ y)
 write-sum κs a z y e f p q = same p q

@@ -26,6 +26,7 @@ use answers::turn::Transmission;
 use master::unit::DpMaster;
 use peripheral_set::PeripheralHandle;
 use script_fields::read::Reader;
+use script_fields::write::Text;
 use std::io::{self, Read};
 
 // The unit and the sum so far.
@@ -154,7 +155,7 @@ fn images(unit: DpMaster, h: u32, n: u8, inputs: &[u8]) -> u32 {
             slot: slot,
             address: 0,
         };
-        sum = total::bytes(sum, access::images::pi_i(unit, handle, inputs));
+        sum = script_fields::write::sum_from(sum, access::images::pi_i(unit, handle, inputs));
         slot = following(slot);
         left -= 1;
     }
@@ -276,13 +277,13 @@ fn asked(s: &[u8]) -> Option<(u64, u8, u32)> {
     (r.ends() && balances > 0).then_some((mode, balances, rounds))
 }
 
-fn line(s: &[u8], out: &mut [u8]) -> usize {
+fn line(s: &[u8], out: &mut Text) {
     let Some((mode, balances, rounds)) = asked(s) else {
-        return script_answers::bare(out, 0, b'?');
+        script_answers::bare(out, b'?');
+        return;
     };
-    let h = run(mode == 0, balances, rounds);
-    let at = script_fields::write::number(out, 0, u64::from(h));
-    script_fields::write::put(out, at, b'\n')
+    out.number(u64::from(run(mode == 0, balances, rounds)));
+    out.put(b'\n');
 }
 
 // The line without its newline.
@@ -314,6 +315,11 @@ fn main(rt: HostRuntime) -> io::Result<()> {
     let mut buf = [0u8; 4096];
     let n = read_full(&mut rt.stdin(), &mut buf)?;
     let mut text = [0u8; 64];
-    let end = line(trimmed(parts::part(&buf, 0, n)), &mut text);
+    let mut out = Text {
+        out: &mut text,
+        at: 0,
+    };
+    line(trimmed(parts::part(&buf, 0, n)), &mut out);
+    let end = out.at;
     rt.write_all(parts::part(&text, 0, end))
 }
