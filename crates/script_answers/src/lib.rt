@@ -7,6 +7,7 @@ ghost use Rattle.script_answers.specs.Answer.{bare_text, numbered_text, added_te
 
 use answers::reply_answer::ReplyAnswer;
 use answers::turn::{Transmission, TurnAnswer};
+use fdl::consts::sap_number;
 use fdl::telegram::DataTelegramHeader;
 use payloads::diagnosis::DiagnosticsInfo;
 use peripheral_set::PeripheralHandle;
@@ -48,10 +49,10 @@ fn header(text: &mut Text, h: DataTelegramHeader, to: u8, payload: &[u8])
     text.fields(&[
         u64::from(h.da),
         u64::from(h.sa),
-        u64::from(h.dsap.number()),
-        u64::from(h.ssap.number()),
-        u64::from(h.req.number()),
-        u64::from(h.fcb.number()),
+        u64::from(sap_number(h.dsap)),
+        u64::from(sap_number(h.ssap)),
+        u64::from(u8::from(h.req)),
+        u64::from(u8::from(h.fcb)),
         u64::from(to),
     ]);
     text.bytes(payload);
@@ -87,7 +88,7 @@ pub fn turn(text: &mut Text, a: TurnAnswer, payload: &[u8])
         u64::from(a.refusal),
         u64::from(a.cycle_completed),
         u64::from(a.offline),
-        u64::from(a.event.number()),
+        u64::from(u8::from(a.event)),
         u64::from(a.handle.slot),
         a.len as u64,
         sent(a.transmission),
@@ -104,7 +105,7 @@ pub fn reply(text: &mut Text, a: ReplyAnswer)
     text.fields(&[
         u64::from(a.refusal),
         u64::from(a.cycle_completed),
-        u64::from(a.event.number()),
+        u64::from(u8::from(a.event)),
         u64::from(a.handle.slot),
     ]);
     text.put(b'\n');

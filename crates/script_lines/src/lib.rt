@@ -10,7 +10,7 @@ ghost use Rattle.script_lines.specs.Handles.{handle_at};
 ghost use Rattle.script_lines.specs.Call.{fields_for, first_for, second_for, CallRead};
 
 use cycle::state::OperatingState;
-use fdl::consts::Sap;
+use fdl::consts::sap_of;
 use fdl::parameters::Parameters;
 use fdl::telegram::Telegram;
 use master::add::Addition;
@@ -207,8 +207,8 @@ fn telegram_of(kind: u64, dsap: u8, ssap: u8, status: u8, len: usize) -> Option<
     match kind {
         0 => bare.then_some(Telegram::ShortConfirmation),
         1 => Some(Telegram::Data {
-            dsap: Sap::of(dsap),
-            ssap: Sap::of(ssap),
+            dsap: sap_of(dsap),
+            ssap: sap_of(ssap),
             status,
         }),
         2 => bare.then_some(Telegram::Token),
@@ -250,7 +250,7 @@ fn fields(letter: u8, r: &mut Reader, a: &mut [u8; 255], b: &mut [u8; 255]) -> O
         b'P' => Some(Call::FillPools(r.number(255)? as u8)),
         b'F' => Some(Call::FillPayload(r.number(255)? as u8)),
         b'A' => add(r, a, b),
-        b'S' => Some(Call::State(OperatingState::of(r.number(2)? as u8))),
+        b'S' => Some(Call::State(OperatingState::from(r.number(2)? as u8))),
         b'T' => Some(Call::Turn {
             time: r.number(u64::MAX)?,
             high_prio_only: r.flag()?,

@@ -4,6 +4,7 @@ ghost use Rattle.speed.specs.Total.{header_fields, sent_fields, turn_numbers, re
 
 use answers::reply_answer::ReplyAnswer;
 use answers::turn::{Transmission, TurnAnswer};
+use fdl::consts::sap_number;
 use fdl::telegram::DataTelegramHeader;
 use script_fields::write::{sum_from, sum_step};
 
@@ -13,10 +14,10 @@ fn header(h: u32, d: DataTelegramHeader, to: u8, payload: &[u8]) -> u32
     let mut sum = sum_step(h, 1);
     sum = sum_step(sum, u32::from(d.da));
     sum = sum_step(sum, u32::from(d.sa));
-    sum = sum_step(sum, u32::from(d.dsap.number()));
-    sum = sum_step(sum, u32::from(d.ssap.number()));
-    sum = sum_step(sum, u32::from(d.req.number()));
-    sum = sum_step(sum, u32::from(d.fcb.number()));
+    sum = sum_step(sum, u32::from(sap_number(d.dsap)));
+    sum = sum_step(sum, u32::from(sap_number(d.ssap)));
+    sum = sum_step(sum, u32::from(u8::from(d.req)));
+    sum = sum_step(sum, u32::from(u8::from(d.fcb)));
     sum = sum_step(sum, u32::from(to));
     sum_from(sum, payload)
 }
@@ -43,7 +44,7 @@ pub fn turn(h: u32, a: TurnAnswer, buf: &[u8]) -> u32
     let mut sum = sum_step(h, u32::from(a.refusal));
     sum = sum_step(sum, u32::from(a.cycle_completed));
     sum = sum_step(sum, a.offline);
-    sum = sum_step(sum, u32::from(a.event.number()));
+    sum = sum_step(sum, u32::from(u8::from(a.event)));
     sum = sum_step(sum, u32::from(a.handle.slot));
     sum = sum_step(sum, (a.len % 4294967296) as u32);
     sent(sum, a.transmission, parts::part(buf, 0, a.len))
@@ -56,6 +57,6 @@ pub fn reply(h: u32, a: ReplyAnswer) -> u32
 {
     let mut sum = sum_step(h, u32::from(a.refusal));
     sum = sum_step(sum, u32::from(a.cycle_completed));
-    sum = sum_step(sum, u32::from(a.event.number()));
+    sum = sum_step(sum, u32::from(u8::from(a.event)));
     sum_step(sum, u32::from(a.handle.slot))
 }
