@@ -19,14 +19,14 @@ use std::io::{self, Read};
 const OUTPUT: usize = 4 * LONGEST;
 
 // The number of an outcome: 0 where it is done.
-fn outcome(outcome: Result<(), Refusal>) -> u8 {
+fn number(outcome: Result<(), Refusal>) -> u8 {
     match outcome {
         Ok(()) => 0,
         Err(refusal) => u8::from(refusal),
     }
 }
 
-// Whether a call is lent arrays, or could be: what L said ends with it.
+// Whether what an L said ends with a call: with each but these (docs/SCRIPTS.md, "Calls").
 fn ends_lending(call: Call) -> bool {
     !matches!(
         call,
@@ -53,7 +53,7 @@ fn answer(
             let made = Run::new(p);
             *run = made.run;
             arrays.clear();
-            script_answers::numbered(out, b'N', u64::from(outcome(made.outcome)));
+            script_answers::numbered(out, b'N', u64::from(number(made.outcome)));
         }
         Call::Lend(lent) => {
             run.lend(lent);
@@ -102,25 +102,25 @@ fn answer(
         }
         Call::Reset { handle, address } => {
             let done = run.unit.reset_address(handle, address);
-            script_answers::numbered(out, b'X', u64::from(outcome(done)));
+            script_answers::numbered(out, b'X', u64::from(number(done)));
         }
         Call::Wish(handle) => {
             let done = run.unit.request_diagnostics(handle);
-            script_answers::numbered(out, b'Q', u64::from(outcome(done)));
+            script_answers::numbered(out, b'Q', u64::from(number(done)));
         }
         Call::Write { handle, len } => {
             let done = run.write(handle, parts::part(a, 0, len), arrays.outputs);
-            script_answers::numbered(out, b'W', u64::from(outcome(done)));
+            script_answers::numbered(out, b'W', u64::from(number(done)));
         }
         Call::Inputs(handle) => {
             let refusal = run.inputs_refusal(handle, arrays.inputs);
             let part = run.inputs(handle, arrays.inputs);
-            script_answers::image(out, b'I', outcome(refusal), part);
+            script_answers::image(out, b'I', number(refusal), part);
         }
         Call::Outputs(handle) => {
             let refusal = run.outputs_refusal(handle, arrays.outputs);
             let part = run.outputs(handle, arrays.outputs);
-            script_answers::image(out, b'O', outcome(refusal), part);
+            script_answers::image(out, b'O', number(refusal), part);
         }
         Call::Diagnosis(handle) => {
             let last = run.diagnosis(handle, arrays.diags);

@@ -14,7 +14,7 @@ use borrow.Rule.Slice.PartMut.{put_mid}
 use Rattle.std.proofs.Common.{◌==◌}
 use Rattle.std.specs.Option.{unwrap_or}
 use Rattle.std.specs.List.{find, range_with_len}
-use borrow.Author.Tests.{leb-true, leb-false, lt-ltb, le-ltb}
+use borrow.Author.Tests.{leb-true, leb-false, lt-ltb}
 use Rattle.parts.proofs.Laws.{by_test}
 use Rattle.script_fields.specs.Write.{flag_number}
 use Rattle.peripheral_set.specs.declared.Entry.{Entry}
@@ -97,22 +97,16 @@ flag_byte : (b : Bool) → bool_byte b ≡ flag_number b
 flag_byte true = refl
 flag_byte false = refl
 
-module _ (l : List ℕ) (k : ℕ) (e : Entry) where
-  -- what the copy of the three bytes leaves
-  pub entry_put : (out : List ℕ) (v : ℕ) → k < length l / 3 → out ≡ e.slot ∷ e.address ∷ v ∷ [] → v ≡ bool_byte e.running
-      → put_mid (3 * k) (3 * k + 3 - 3 * k) l out ≡ put_entry k e l
-  unfolding put_entry
-  entry_put out v h q f =
-      let new : List ℕ = e.slot ∷ e.address ∷ flag_number e.running ∷ [] in
-      let at : ℕ = 3 * k in
-      let three : 3 * k + 3 - 3 * k ≡ 3 = omega arith in
-      let flag : v ≡ flag_number e.running = f ∙ flag_byte e.running in
-      rw (three, q, flag, lt-ltb k (length l / 3) h)
-      (ap (λ (x : List ℕ). take at l ++ (new ++ x)) (drop-drop 3 at l) ∙ sym (append_assoc (take at l) new (drop (at + 3) l)) ∙ sym (sets-eq new l at (omega arith)))
-
-  pub entry_out : length l / 3 ≤ k → l ≡ put_entry k e l
-  unfolding put_entry
-  entry_out h = rw (le-ltb k (length l / 3) h) refl
+-- what the copy of the three bytes leaves
+pub entry_put : (l : List ℕ) (k : ℕ) (e : Entry) (out : List ℕ) (v : ℕ) → k < length l / 3 → out ≡ e.slot ∷ e.address ∷ v ∷ [] → v ≡ bool_byte e.running → put_mid (3 * k) (3 * k + 3 - 3 * k) l out ≡ put_entry k e l
+unfolding put_entry
+entry_put l k e out v h q f =
+    let new : List ℕ = e.slot ∷ e.address ∷ flag_number e.running ∷ [] in
+    let at : ℕ = 3 * k in
+    let three : 3 * k + 3 - 3 * k ≡ 3 = omega arith in
+    let flag : v ≡ flag_number e.running = f ∙ flag_byte e.running in
+    rw (three, q, flag, lt-ltb k (length l / 3) h)
+    (ap (λ (x : List ℕ). take at l ++ (new ++ x)) (drop-drop 3 at l) ∙ sym (append_assoc (take at l) new (drop (at + 3) l)) ∙ sym (sets-eq new l at (omega arith)))
 
 module _ (m : DpMaster) (from : List ℕ) (k : ℕ) (list : List ℕ) where
   pub entries_more : k < length from → put_entries m (drop k from) k list ≡ put_entries m (drop (k + 1) from) (k + 1) (put_entry k (entry_at m (get_or from k slots)) list)

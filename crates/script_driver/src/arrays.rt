@@ -63,6 +63,7 @@ pub fn fill_list(list: &mut [u8], b: u8)
     }
 }
 
+#[tactic(auto, unfolding(crate::specs::Arrays::put_entry))]
 fn put_entry(list: &mut [u8], k: usize, e: Entry)
     ensures { list.new ≡ put_entry k e list.old }
 {

@@ -2,10 +2,9 @@
 use mathlib.Core.Path.{ap, ◌∙◌}
 use mathlib.Core.List.{List, ◌++◌}
 use Prim.Native.Nat.{ℕ}
-use native.Mathlib.Omega.{arith}
 use lib.ListN.{drop, set}
 use Rattle.script_driver.specs.Arrays.{entry_byte, tabulated}
-use Rattle.script_driver.proofs.Laws.{up_to_none, up_to_more, up_to_all}
+use Rattle.script_driver.proofs.Laws.{up_to_none, up_to_more}
 use Rattle.script_driver.proofs.arrays.fill_list.Goals as goal
 
 pub loop-i-init : goal.loop-i-init
@@ -17,6 +16,3 @@ loop-i-preserved c = let f = entry_byte c.args.b in
     ap (λ (l : List ℕ). set l i c.entry_byte.result) c.loop-i.invariant
     ∙ ap (set (tabulated f i ++ drop i c.args.list.now) i) c.entry_byte.ensures
     ∙ up_to_more f i c.args.list.now c.loop-i-test.true
-
-pub returns : goal.returns
-returns c = c.loop-i.invariant ∙ up_to_all _ _ c.args.list.now (omega arith)
