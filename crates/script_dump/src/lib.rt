@@ -158,7 +158,7 @@ pub fn line(text: &mut Text, m: &DpMaster, sums: Sums)
     parameters(text, m.parameters);
     state(text, m.state);
     pools(text, m.used, sums);
-    text.field(peripheral_set::count(m.occupied) as u64);
+    text.field(peripheral_set::count(&m.occupied) as u64);
     slots(text, &m.occupied, &m.peripherals);
     text.put(b'\n');
 }
