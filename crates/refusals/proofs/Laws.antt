@@ -13,7 +13,7 @@ use borrow.Author.Tests.{eqb-true, eq-eqb, not-true}
 use Rattle.parts.proofs.Laws.{and_left, and_right}
 use Rattle.refusals.specs.declared.Refusal.{Refusal}
 use Rattle.refusals.specs.declared.Refusal.TheVariants.{BadParameter, BadLent, EarlyTurn, BadHandle, TableFull, BadAddress, TooLong, NoRoom, NotAsked, Unusable, BadLength}
-use Rattle.refusals.specs.Table.{Row, first_of, said, or_else, refusal_number, refusal_numbered, given, outcome}
+use Rattle.refusals.specs.Table.{Row, first_of, said, or_else, refusal_number, refusal_numbered, given, outcome, number_of}
 
 -- no row has the number 0, which is "done"
 abbrev pub numbered : List Row → Bool
@@ -145,6 +145,14 @@ told (r ∷ rows) h {e} p = by r.applies p (told rows (and_right (eqb (refusal_n
         → (refusal_number e ≡ cond b r.number (first_of rows)) × (cond b r.number (first_of rows) ≡ 0 → ⊥)
     by true p rest = number-told r.number (eqb-true _ r.number (and_left (eqb (refusal_number (refusal_numbered r.number)) r.number) (known rows) h)) p
     by false p rest = rest p
+
+-- an answer follows from its number
+pub outcome-back : (z : Result Unit Refusal) → outcome (number_of z) ≡ z
+outcome-back (Ok tt) = done
+outcome-back (Err r) = refused r
+
+pub same_number : (z y : Result Unit Refusal) → number_of z ≡ number_of y → z ≡ y
+same_number z y e = sym (outcome-back z) ∙ ap outcome e ∙ outcome-back y
 
 -- ---- the code's order: each row, `and` the next
 
