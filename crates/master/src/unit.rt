@@ -11,7 +11,7 @@ use refusals::Refusal;
 
 // The used part of each pool.
 #[repr(C)]
-#[derive(Clone, Copy)]
+#[derive(Clone, Copy, Default)]
 pub struct Used {
     // Bytes in use at the front of the pool of set-up data, 0 to its length; the next add goes behind them.
     pub setup: u16,
@@ -24,6 +24,7 @@ pub struct Used {
 }
 
 // The unit: 24 bytes that change with each turn, 20 of parameters, 8 of used lengths, a mark and 36 bytes a slot; 1,240 in all.
+// An array of marks beside one of records is document 01's form, and so are 32 slots and no heap.
 #[repr(C)]
 #[derive(Clone, Copy)]
 pub struct DpMaster {
@@ -55,12 +56,7 @@ fn empty_unit(parameters: Parameters) -> DpMaster
     DpMaster {
         state: DpMasterState::new(),
         parameters,
-        used: Used {
-            setup: 0,
-            inputs: 0,
-            outputs: 0,
-            diags: 0,
-        },
+        used: Used::default(),
         occupied: [false; SLOTS],
         peripherals: [Peripheral::blank(); SLOTS],
     }
