@@ -11,7 +11,7 @@ use refusals::Refusal;
 
 // The used part of each pool.
 #[repr(C)]
-#[derive(Clone, Copy, Default)]
+#[derive(Clone, Copy)]
 pub struct Used {
     // Bytes in use at the front of the pool of set-up data, 0 to its length; the next add goes behind them.
     pub setup: u16,
@@ -56,7 +56,12 @@ fn empty_unit(parameters: Parameters) -> DpMaster
     DpMaster {
         state: DpMasterState::new(),
         parameters,
-        used: Used::default(),
+        used: Used {
+            setup: 0,
+            inputs: 0,
+            outputs: 0,
+            diags: 0,
+        },
         occupied: [false; SLOTS],
         peripherals: [Peripheral::blank(); SLOTS],
     }

@@ -4,4 +4,4 @@ use Rattle.master.proofs.unit.empty_unit.Goals as goal
 
 pub returns : goal.returns
 unfolding empty_unit
-returns c = rw (c.new.ensures, c.default.ensures, c.blank.ensures)
+returns c = rw (c.new.ensures, c.blank.ensures)
