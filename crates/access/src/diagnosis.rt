@@ -12,7 +12,11 @@ use refusals::Refusal;
 // The numbers of the last diagnosis that was taken since the balance was added or reset; "none" before one is held.
 // Refuses: pooled_rows.
 // Changes: nothing.
-pub fn last_diagnostics(m: &DpMaster, handle: PeripheralHandle, diags: &[u8]) -> Result<DiagnosticsInfo, Refusal>
+pub fn last_diagnostics(
+    m: &DpMaster,
+    handle: PeripheralHandle,
+    diags: &[u8],
+) -> Result<DiagnosticsInfo, Refusal>
     ensures { result ≡ last_of (diag_number m.now handle diags.now) (found_in m.now handle) }
 {
     Ok(pooled(m, handle, diags.len(), m.parameters.diag_pool)?.last_diagnostics())

@@ -21,14 +21,24 @@ pub struct ImageRange {
 }
 
 // Whether a call that is lent one pool is refused: by its length, then by the handle.
-pub fn pooled_refusal(m: &DpMaster, handle: PeripheralHandle, lent: usize, pool: u16) -> Result<(), Refusal>
+pub fn pooled_refusal(
+    m: &DpMaster,
+    handle: PeripheralHandle,
+    lent: usize,
+    pool: u16,
+) -> Result<(), Refusal>
     ensures { result ≡ outcome (pooled_refusal lent pool handle m.now.occupied) }
 {
     refusals::lent(lent, pool).and(handle.refusal(&m.occupied))
 }
 
 // The balance of a handle, for a call that is lent one pool.
-pub fn pooled(m: &DpMaster, handle: PeripheralHandle, lent: usize, pool: u16) -> Result<Peripheral, Refusal>
+pub fn pooled(
+    m: &DpMaster,
+    handle: PeripheralHandle,
+    lent: usize,
+    pool: u16,
+) -> Result<Peripheral, Refusal>
     ensures { result ≡ given (pooled_refusal lent pool handle m.now.occupied) (found_in m.now handle) }
 {
     refusals::lent(lent, pool)?;
@@ -92,7 +102,11 @@ pub fn pi_q_mut<'a>(m: &DpMaster, handle: PeripheralHandle, outputs: &'a mut [u8
 // Where `pi_q` and `pi_q_mut` hand the output image out, for whoever slices the pool himself; 0 and 0 where it does not lie in its pool.
 // Refuses: pooled_rows.
 // Changes: nothing.
-pub fn pi_q_range(m: &DpMaster, handle: PeripheralHandle, outputs: &[u8]) -> Result<ImageRange, Refusal>
+pub fn pi_q_range(
+    m: &DpMaster,
+    handle: PeripheralHandle,
+    outputs: &[u8],
+) -> Result<ImageRange, Refusal>
     ensures { result ≡ range_of (output_number m.now handle outputs.now) (outputs_seen m.now handle outputs.now) }
 {
     let p = pooled(m, handle, outputs.len(), m.parameters.output_pool)?;
@@ -108,12 +122,17 @@ pub fn pi_q_range(m: &DpMaster, handle: PeripheralHandle, outputs: &[u8]) -> Res
 // The output image becomes `bytes`, which has to be as long.
 // Refuses: write_refusal.
 // Changes: the bytes of the image.
-pub fn write_outputs(m: &DpMaster, handle: PeripheralHandle, bytes: &[u8], outputs: &mut [u8]) -> Result<(), Refusal>
+pub fn write_outputs(
+    m: &DpMaster,
+    handle: PeripheralHandle,
+    bytes: &[u8],
+    outputs: &mut [u8],
+) -> Result<(), Refusal>
     ensures { OutputsWritten m.now handle bytes.now outputs.old outputs.new (number_of result) }
 {
-    let p = pooled(m, handle, outputs.len(), m.parameters.output_pool)?;
-    let len = usize::from(p.ranges.output_len);
+    let found = pooled(m, handle, outputs.len(), m.parameters.output_pool)?;
+    let len = usize::from(found.ranges.output_len);
     refusals::write(bytes.len(), len)?;
-    parts::copy_at(outputs, usize::from(p.ranges.outputs), len, bytes);
+    parts::copy_at(outputs, usize::from(found.ranges.outputs), len, bytes);
     Ok(())
 }

@@ -25,7 +25,7 @@ pub fn find(m: &DpMaster, handle: PeripheralHandle) -> Result<Peripheral, Refusa
 pub fn is_live(m: &DpMaster, handle: PeripheralHandle) -> Result<bool, Refusal>
     ensures { result ≡ given (handle_refusal handle m.now.occupied) (is_live (found_in m.now handle).station) }
 {
-    find(m, handle).map(|p| p.is_live())
+    Ok(find(m, handle)?.is_live())
 }
 
 // Whether the balance exchanges data: state DataExchange alone.

@@ -2,7 +2,7 @@
 // What a line does is decided in `driver`, with exact contracts; here the lines are read, handed on, and answered.
 #![tactic(auto)]
 
-ghost use Rattle.std.specs.Prelude.{◌≡◌, ◌<◌, IfOk, length};
+ghost use Rattle.std.specs.Prelude.{◌≡◌, ◌<◌, OnOk, length};
 ghost use Rattle.script_driver.specs.Room.{next_at};
 
 use cycle::state::OperatingState;
@@ -15,55 +15,27 @@ use script_driver::calls;
 use script_driver::pieces::Partial;
 use script_driver::room::LONGEST;
 use script_driver::run::Run;
+use script_fields::write::Text;
 use script_lines::{Call, Lent};
 use std::io::{self, Read};
 
-// What a line leaves, and where the next answer goes.
-#[derive(Clone, Copy)]
-struct Step {
-    run: Run,
-    at: usize,
-}
-
-fn wide(n: u8) -> u64 {
-    n as u64
-}
-
-// After a call: its unit.
-fn done(run: Run, unit: DpMaster, at: usize) -> Step {
-    Step {
-        run: run.after(unit),
-        at: at,
-    }
-}
-
-// After a call that leaves the unit as it is.
-fn kept(run: Run, at: usize) -> Step {
-    let unit = run.unit;
-    done(run, unit, at)
-}
-
 // A line that is no call changes nothing.
-fn unknown(run: Run, out: &mut [u8], at: usize) -> Step {
-    let next = script_answers::bare(out, at, b'?');
-    Step { run: run, at: next }
+fn unknown(run: Run, out: &mut Text) -> Run {
+    script_answers::bare(out, b'?');
+    run
 }
 
 // N.
-fn new(p: Parameters, out: &mut [u8], at: usize) -> Step {
+fn new(p: Parameters, out: &mut Text) -> Run {
     let made = Run::new(p);
-    let run = made.run;
-    let next = script_answers::numbered(out, at, b'N', wide(made.refusal));
-    Step { run: run, at: next }
+    script_answers::numbered(out, b'N', u64::from(made.refusal));
+    made.run
 }
 
 // L.
-fn lend(run: Run, lent: Lent, out: &mut [u8], at: usize) -> Step {
-    let next = script_answers::bare(out, at, b'L');
-    Step {
-        run: run.lend(lent),
-        at: next,
-    }
+fn lend(run: Run, lent: Lent, out: &mut Text) -> Run {
+    script_answers::bare(out, b'L');
+    run.lend(lent)
 }
 
 // P.
@@ -74,26 +46,18 @@ fn fill_pools(
     inputs: &mut [u8],
     outputs: &mut [u8],
     diags: &mut [u8],
-    out: &mut [u8],
-    at: usize,
-) -> Step {
+    out: &mut Text,
+) -> Run {
     calls::fill_pools(b, setup, inputs, outputs, diags);
-    let next = script_answers::bare(out, at, b'P');
-    Step { run: run, at: next }
+    script_answers::bare(out, b'P');
+    run
 }
 
 // F.
-fn fill_payload(
-    run: Run,
-    b: u8,
-    payload: &mut [u8],
-    list: &mut [u8],
-    out: &mut [u8],
-    at: usize,
-) -> Step {
+fn fill_payload(run: Run, b: u8, payload: &mut [u8], list: &mut [u8], out: &mut Text) -> Run {
     calls::fill_payload(b, payload, list);
-    let next = script_answers::bare(out, at, b'F');
-    Step { run: run, at: next }
+    script_answers::bare(out, b'F');
+    run
 }
 
 // A.
@@ -106,19 +70,17 @@ fn add(
     inputs: &mut [u8],
     outputs: &mut [u8],
     diags: &mut [u8],
-    out: &mut [u8],
-    at: usize,
-) -> Step {
+    out: &mut Text,
+) -> Run {
     let added = calls::add(run, addition, user, config, setup, inputs, outputs, diags);
-    let next = script_answers::added(out, at, added.refusal, added.handle);
-    done(run, added.master, next)
+    script_answers::added(out, added.refusal, added.handle);
+    run.after(added.master)
 }
 
 // S.
-fn state(run: Run, state: OperatingState, out: &mut [u8], at: usize) -> Step {
-    let unit = run.unit;
-    let next = script_answers::numbered(out, at, b'S', 0);
-    done(run, unit.enter_state(state), next)
+fn state(run: Run, state: OperatingState, out: &mut Text) -> Run {
+    script_answers::numbered(out, b'S', 0);
+    run.after(run.unit.enter_state(state))
 }
 
 // T.
@@ -129,13 +91,12 @@ fn turn(
     setup: &[u8],
     outputs: &[u8],
     payload: &mut [u8],
-    out: &mut [u8],
-    at: usize,
-) -> Step {
+    out: &mut Text,
+) -> Run {
     let made = calls::turn(run, time, high_prio_only, setup, outputs, payload);
     let a = made.answer;
-    let next = script_answers::turn(out, at, a, parts::part(payload, 0, a.len));
-    done(run, made.master, next)
+    script_answers::turn(out, a, parts::part(payload, 0, a.len));
+    run.after(made.master)
 }
 
 // R.
@@ -146,28 +107,25 @@ fn reply(
     payload: &[u8],
     inputs: &mut [u8],
     diags: &mut [u8],
-    out: &mut [u8],
-    at: usize,
-) -> Step {
+    out: &mut Text,
+) -> Run {
     let answered = calls::reply(run, address, telegram, payload, inputs, diags);
-    let next = script_answers::reply(out, at, answered.answer);
-    done(run, answered.master, next)
+    script_answers::reply(out, answered.answer);
+    run.after(answered.master)
 }
 
 // X.
-fn reset(run: Run, handle: PeripheralHandle, address: u8, out: &mut [u8], at: usize) -> Step {
-    let unit = run.unit;
-    let d = unit.reset_address(handle, address);
-    let next = script_answers::numbered(out, at, b'X', wide(d.refusal));
-    done(run, d.master, next)
+fn reset(run: Run, handle: PeripheralHandle, address: u8, out: &mut Text) -> Run {
+    let d = run.unit.reset_address(handle, address);
+    script_answers::numbered(out, b'X', u64::from(d.refusal));
+    run.after(d.master)
 }
 
 // Q.
-fn wish(run: Run, handle: PeripheralHandle, out: &mut [u8], at: usize) -> Step {
-    let unit = run.unit;
-    let d = unit.request_diagnostics(handle);
-    let next = script_answers::numbered(out, at, b'Q', wide(d.refusal));
-    done(run, d.master, next)
+fn wish(run: Run, handle: PeripheralHandle, out: &mut Text) -> Run {
+    let d = run.unit.request_diagnostics(handle);
+    script_answers::numbered(out, b'Q', u64::from(d.refusal));
+    run.after(d.master)
 }
 
 // W.
@@ -176,44 +134,43 @@ fn write(
     handle: PeripheralHandle,
     bytes: &[u8],
     outputs: &mut [u8],
-    out: &mut [u8],
-    at: usize,
-) -> Step {
+    out: &mut Text,
+) -> Run {
     let refusal = calls::write(run, handle, bytes, outputs);
-    let next = script_answers::numbered(out, at, b'W', wide(refusal));
-    kept(run, next)
+    script_answers::numbered(out, b'W', u64::from(refusal));
+    run.after(run.unit)
 }
 
 // I.
-fn inputs(run: Run, handle: PeripheralHandle, inputs: &[u8], out: &mut [u8], at: usize) -> Step {
+fn inputs(run: Run, handle: PeripheralHandle, inputs: &[u8], out: &mut Text) -> Run {
     let refusal = calls::inputs_refusal(run, handle, inputs);
     let part = calls::inputs(run, handle, inputs);
-    let next = script_answers::image(out, at, b'I', refusal, part);
-    kept(run, next)
+    script_answers::image(out, b'I', refusal, part);
+    run.after(run.unit)
 }
 
 // O.
-fn outputs(run: Run, handle: PeripheralHandle, outputs: &[u8], out: &mut [u8], at: usize) -> Step {
+fn outputs(run: Run, handle: PeripheralHandle, outputs: &[u8], out: &mut Text) -> Run {
     let refusal = calls::outputs_refusal(run, handle, outputs);
     let part = calls::outputs(run, handle, outputs);
-    let next = script_answers::image(out, at, b'O', refusal, part);
-    kept(run, next)
+    script_answers::image(out, b'O', refusal, part);
+    run.after(run.unit)
 }
 
 // G.
-fn diagnosis(run: Run, handle: PeripheralHandle, diags: &[u8], out: &mut [u8], at: usize) -> Step {
+fn diagnosis(run: Run, handle: PeripheralHandle, diags: &[u8], out: &mut Text) -> Run {
     let last = calls::diagnosis(run, handle, diags);
     let part = calls::extended(run, handle, diags);
-    let next = script_answers::diagnosis(out, at, last.refusal, last.value, part);
-    kept(run, next)
+    script_answers::diagnosis(out, last.refusal, last.value, part);
+    run.after(run.unit)
 }
 
 // H.
-fn listing(run: Run, list: &mut [u8], out: &mut [u8], at: usize) -> Step {
+fn listing(run: Run, list: &mut [u8], out: &mut Text) -> Run {
     let shown = calls::listing(run, list);
     let all = &list[..];
-    let next = script_answers::listing(out, at, shown.refusal, parts::part(all, 0, shown.len), all);
-    kept(run, next)
+    script_answers::listing(out, shown.refusal, parts::part(all, 0, shown.len), all);
+    run.after(run.unit)
 }
 
 // D.
@@ -223,19 +180,17 @@ fn dump(
     inputs: &[u8],
     outputs: &[u8],
     diags: &[u8],
-    out: &mut [u8],
-    at: usize,
-) -> Step {
-    let unit = run.unit;
+    out: &mut Text,
+) -> Run {
     let sums = script_driver::arrays::sums(setup, inputs, outputs, diags);
-    let next = script_dump::line(out, at, unit, sums);
-    Step { run: run, at: next }
+    script_dump::line(out, &run.unit, sums);
+    run
 }
 
 // B.
-fn payload(run: Run, payload: &[u8], out: &mut [u8], at: usize) -> Step {
-    let next = script_answers::numbered(out, at, b'B', script_fields::write::sum(payload));
-    Step { run: run, at: next }
+fn payload(run: Run, payload: &[u8], out: &mut Text) -> Run {
+    script_answers::numbered(out, b'B', script_fields::write::sum(payload));
+    run
 }
 
 // The first bytes of an array.
@@ -244,13 +199,13 @@ fn front(a: &[u8; 255], len: usize) -> &[u8] {
 }
 
 // The calls that take no array; all else is no call.
-fn plain(run: Run, call: Call, out: &mut [u8], at: usize) -> Step {
+fn plain(run: Run, call: Call, out: &mut Text) -> Run {
     match call {
-        Call::Lend(lent) => lend(run, lent, out, at),
-        Call::State(s) => state(run, s, out, at),
-        Call::Reset { handle, address } => reset(run, handle, address, out, at),
-        Call::Wish(handle) => wish(run, handle, out, at),
-        _ => unknown(run, out, at),
+        Call::Lend(lent) => lend(run, lent, out),
+        Call::State(s) => state(run, s, out),
+        Call::Reset { handle, address } => reset(run, handle, address, out),
+        Call::Wish(handle) => wish(run, handle, out),
+        _ => unknown(run, out),
     }
 }
 
@@ -263,16 +218,15 @@ fn looking(
     outputs_array: &[u8],
     diags: &[u8],
     payload_array: &[u8],
-    out: &mut [u8],
-    at: usize,
-) -> Step {
+    out: &mut Text,
+) -> Run {
     match call {
-        Call::Inputs(handle) => inputs(run, handle, inputs_array, out, at),
-        Call::Outputs(handle) => outputs(run, handle, outputs_array, out, at),
-        Call::Diagnosis(handle) => diagnosis(run, handle, diags, out, at),
-        Call::Dump => dump(run, setup, inputs_array, outputs_array, diags, out, at),
-        Call::Payload => payload(run, payload_array, out, at),
-        _ => plain(run, call, out, at),
+        Call::Inputs(handle) => inputs(run, handle, inputs_array, out),
+        Call::Outputs(handle) => outputs(run, handle, outputs_array, out),
+        Call::Diagnosis(handle) => diagnosis(run, handle, diags, out),
+        Call::Dump => dump(run, setup, inputs_array, outputs_array, diags, out),
+        Call::Payload => payload(run, payload_array, out),
+        _ => plain(run, call, out),
     }
 }
 
@@ -286,17 +240,16 @@ fn reading(
     diags: &[u8],
     payload: &mut [u8],
     list: &mut [u8],
-    out: &mut [u8],
-    at: usize,
-) -> Step {
+    out: &mut Text,
+) -> Run {
     match call {
-        Call::FillPayload(n) => fill_payload(run, n, payload, list, out, at),
+        Call::FillPayload(n) => fill_payload(run, n, payload, list, out),
         Call::Turn {
             time,
             high_prio_only,
-        } => turn(run, time, high_prio_only, setup, outputs, payload, out, at),
-        Call::Listing => listing(run, list, out, at),
-        _ => looking(run, call, setup, inputs, outputs, diags, payload, out, at),
+        } => turn(run, time, high_prio_only, setup, outputs, payload, out),
+        Call::Listing => listing(run, list, out),
+        _ => looking(run, call, setup, inputs, outputs, diags, payload, out),
     }
 }
 
@@ -329,11 +282,10 @@ fn writing(
     inputs: &mut [u8],
     outputs: &mut [u8],
     diags: &mut [u8],
-    out: &mut [u8],
-    at: usize,
-) -> Step {
+    out: &mut Text,
+) -> Run {
     match call {
-        Call::FillPools(n) => fill_pools(run, n, setup, inputs, outputs, diags, out, at),
+        Call::FillPools(n) => fill_pools(run, n, setup, inputs, outputs, diags, out),
         Call::Add {
             addition,
             user,
@@ -348,24 +300,14 @@ fn writing(
             outputs,
             diags,
             out,
-            at,
         ),
         Call::Reply {
             address,
             telegram,
             len,
-        } => reply(
-            run,
-            address,
-            telegram,
-            front(a, len),
-            inputs,
-            diags,
-            out,
-            at,
-        ),
-        Call::Write { handle, len } => write(run, handle, front(a, len), outputs, out, at),
-        _ => unknown(run, out, at),
+        } => reply(run, address, telegram, front(a, len), inputs, diags, out),
+        Call::Write { handle, len } => write(run, handle, front(a, len), outputs, out),
+        _ => unknown(run, out),
     }
 }
 
@@ -380,50 +322,50 @@ fn line(
     diags: &mut [u8],
     payload: &mut [u8],
     list: &mut [u8],
-    out: &mut [u8],
-    at: usize,
-) -> Step {
+    out: &mut Text,
+) -> Run {
     let mut a = [0u8; 255];
     let mut b = [0u8; 255];
     let asked = script_lines::parse(s, &mut a, &mut b);
-    let call = script_driver::run::call_made(run.made, long, asked);
+    let Some(call) = script_driver::run::call_made(run.made, long, asked) else {
+        return unknown(run, out, at);
+    };
     if let Call::New(p) = call {
         calls::clear(setup, inputs, outputs, diags, payload, list);
-        return new(p, out, at);
+        return new(p, out);
     }
     if is_writing(call) {
-        return writing(run, call, &a, &b, setup, inputs, outputs, diags, out, at);
+        return writing(run, call, &a, &b, setup, inputs, outputs, diags, out);
     }
-    reading(
-        run, call, setup, inputs, outputs, diags, payload, list, out, at,
-    )
+    reading(run, call, setup, inputs, outputs, diags, payload, list, out)
 }
 
-// What stands between two chunks: the unit, what came of a line, and how much of the output waits.
+// What stands between two chunks: the unit, and what came of a line.
 #[derive(Clone, Copy)]
 struct Work {
     run: Run,
     line: Partial,
-    at: usize,
 }
 
 // The output has room for four of the longest answers; once there is none left for one more, what waits is written.
 const OUTPUT: usize = 4 * LONGEST;
 
 // Writes what waits.
-fn flush(rt: &impl Print, out: &[u8], at: usize) -> io::Result<()> {
-    rt.write_all(parts::part(out, 0, at))
+fn flush(rt: &impl Print, out: &Text) -> io::Result<()> {
+    rt.write_all(parts::part(out.out, 0, out.at))
 }
 
-// Writes what waits where there is no room behind it for every answer, and answers where the next one goes.
-fn flushed(rt: &impl Print, out: &[u8], at: usize) -> io::Result<usize>
-    ensures { IfOk result (λ n. n ≡ next_at (length out.now) at) }
+// Writes what waits where there is no room behind it for every answer: the next one then goes to the front.
+fn flushed(rt: &impl Print, out: &mut Text) -> io::Result<()>
+    ensures { OnOk result
+        (out.new ≡ record out.old { at = next_at (length out.old.out.now) out.old.at }) }
 {
-    let next = script_driver::room::next_at(out.len(), at);
-    if next < at {
-        flush(rt, out, at)?;
+    let next = script_driver::room::next_at(out.out.len(), out.at);
+    if next < out.at {
+        flush(rt, out)?;
     }
-    Ok(next)
+    out.at = next;
+    Ok(())
 }
 
 // A piece of a line; where it ends the line, that is answered.
@@ -439,20 +381,18 @@ fn piece(
     payload: &mut [u8],
     list: &mut [u8],
     text: &mut [u8],
-    out: &mut [u8],
+    out: &mut Text,
 ) -> io::Result<Work> {
-    let unit = w.run;
     let p = script_driver::pieces::append(w.line, part, text);
     if !ended {
         return Ok(Work {
-            run: unit,
+            run: w.run,
             line: p,
-            at: w.at,
         });
     }
-    let start = flushed(rt, out, w.at)?;
-    let s = line(
-        unit,
+    flushed(rt, out)?;
+    let run = line(
+        w.run,
         parts::part(text, 0, p.filled),
         p.long,
         setup,
@@ -462,18 +402,12 @@ fn piece(
         payload,
         list,
         out,
-        start,
     );
-    let after = s.run;
     let none = Partial {
         filled: 0,
         long: false,
     };
-    Ok(Work {
-        run: after,
-        line: none,
-        at: s.at,
-    })
+    Ok(Work { run, line: none })
 }
 
 // The lines that end in a chunk, and the piece behind them.
@@ -488,7 +422,7 @@ fn lines_of(
     payload: &mut [u8],
     list: &mut [u8],
     text: &mut [u8],
-    out: &mut [u8],
+    out: &mut Text,
 ) -> io::Result<Work> {
     let mut work = w;
     let mut i = 0;
@@ -530,13 +464,12 @@ fn left(turns: u64, came: usize) -> u64
 }
 
 // Writes what waits; an unfinished last line is no call.
-fn finish(rt: &impl Print, p: Partial, out: &mut [u8], at: usize) -> io::Result<()> {
+fn finish(rt: &impl Print, p: Partial, out: &mut Text) -> io::Result<()> {
     if script_driver::pieces::unfinished(p) {
-        let start = flushed(rt, out, at)?;
-        let end = script_answers::bare(out, start, b'?');
-        return flush(rt, out, end);
+        flushed(rt, out)?;
+        script_answers::bare(out, b'?');
     }
-    flush(rt, out, at)
+    flush(rt, out)
 }
 
 // The whole input.
@@ -551,17 +484,15 @@ fn all(
     list: &mut [u8],
     text: &mut [u8],
     chunk: &mut [u8],
-    out: &mut [u8],
+    out: &mut Text,
 ) -> io::Result<()> {
-    let start = Run::empty();
     let none = Partial {
         filled: 0,
         long: false,
     };
     let mut w = Work {
-        run: start,
+        run: Run::empty(),
         line: none,
-        at: 0,
     };
     let mut turns = u64::MAX;
     while turns > 0 {
@@ -569,7 +500,7 @@ fn all(
             Ok(n) => n,
             // where a read fails, the input ends: what waits is written before the error goes up
             Err(e) => {
-                finish(rt, w.line, out, w.at)?;
+                finish(rt, w.line, out)?;
                 return Err(e);
             }
         };
@@ -588,7 +519,7 @@ fn all(
         )?;
         turns = left(turns, n);
     }
-    finish(rt, w.line, out, w.at)
+    finish(rt, w.line, out)
 }
 
 fn main(rt: HostRuntime) -> io::Result<()> {
@@ -613,6 +544,9 @@ fn main(rt: HostRuntime) -> io::Result<()> {
         &mut list,
         &mut text,
         &mut chunk,
-        &mut out,
+        &mut Text {
+            out: &mut out,
+            at: 0,
+        },
     )
 }

@@ -7,167 +7,146 @@ ghost use Rattle.script_answers.specs.Answer.{bare_text, numbered_text, added_te
 
 use answers::reply_answer::ReplyAnswer;
 use answers::turn::{Transmission, TurnAnswer};
+use fdl::consts::sap_number;
 use fdl::telegram::DataTelegramHeader;
 use payloads::diagnosis::DiagnosticsInfo;
 use peripheral_set::PeripheralHandle;
-use script_fields::write;
+use script_fields::write::{self, Text};
 
 // A letter alone, as `L`, `P`, `F` and `?`.
-pub fn bare(out: &mut [u8], at: usize, letter: u8) -> usize
-    ensures { Wrote (bare_text letter) at out.old out.new result }
+pub fn bare(text: &mut Text, letter: u8)
+    ensures { Wrote (bare_text letter) text.old text.new }
 {
-    let next = write::put(out, at, letter);
-    write::put(out, next, b'\n')
+    text.put(letter);
+    text.put(b'\n');
 }
 
 // A letter and a number: N, S, X, Q, W and B, and a refused A.
-pub fn numbered(out: &mut [u8], at: usize, letter: u8, n: u64) -> usize
-    ensures { Wrote (numbered_text letter n) at out.old out.new result }
+pub fn numbered(text: &mut Text, letter: u8, n: u64)
+    ensures { Wrote (numbered_text letter n) text.old text.new }
 {
-    let after = write::put(out, at, letter);
-    let next = write::field(out, after, n);
-    write::put(out, next, b'\n')
+    text.put(letter);
+    text.field(n);
+    text.put(b'\n');
 }
 
 // A, with the handle where it was done.
-pub fn added(out: &mut [u8], at: usize, refusal: u8, handle: PeripheralHandle) -> usize
-    ensures { Wrote (added_text refusal handle) at out.old out.new result }
+pub fn added(text: &mut Text, refusal: u8, handle: PeripheralHandle)
+    ensures { Wrote (added_text refusal handle) text.old text.new }
 {
     if refusal != 0 {
-        return numbered(out, at, b'A', refusal as u64);
+        return numbered(text, b'A', u64::from(refusal));
     }
-    let list = [0u64, handle.slot as u64, handle.address as u64];
-    let after = write::put(out, at, b'A');
-    let next = write::fields(out, after, &list);
-    write::put(out, next, b'\n')
+    text.put(b'A');
+    text.fields(&[0, u64::from(handle.slot), u64::from(handle.address)]);
+    text.put(b'\n');
 }
 
 // The header of what was sent, the slot that it was sent to, and the payload.
-fn header(out: &mut [u8], at: usize, h: DataTelegramHeader, to: u8, payload: &[u8]) -> usize
-    ensures { Wrote (header_text h to payload.now) at out.old out.new result }
+fn header(text: &mut Text, h: DataTelegramHeader, to: u8, payload: &[u8])
+    ensures { Wrote (header_text h to payload.now) text.old text.new }
 {
-    let dsap = h.dsap;
-    let ssap = h.ssap;
-    let fcb = h.fcb;
-    let req = h.req;
-    let list = [
-        h.da as u64,
-        h.sa as u64,
-        dsap.number() as u64,
-        ssap.number() as u64,
-        req.number() as u64,
-        fcb.number() as u64,
-        to as u64,
-    ];
-    let next = write::fields(out, at, &list);
-    write::bytes(out, next, payload)
+    text.fields(&[
+        u64::from(h.da),
+        u64::from(h.sa),
+        u64::from(sap_number(h.dsap)),
+        u64::from(sap_number(h.ssap)),
+        u64::from(u8::from(h.req)),
+        u64::from(u8::from(h.fcb)),
+        u64::from(to),
+    ]);
+    text.bytes(payload);
 }
 
 fn sent(t: Transmission) -> u64
     ensures { result ≡ sent_number t }
 {
-    match t {
-        Transmission::Nothing => 0,
-        Transmission::Control(_) => 1,
-        Transmission::Request {
-            slot: _,
-            kind: _,
-            header: _,
-        } => 1,
-    }
+    u64::from(!matches!(t, Transmission::Nothing))
 }
 
 // What a turn sent.
-fn transmission(out: &mut [u8], at: usize, t: Transmission, payload: &[u8]) -> usize
-    ensures { Wrote (transmission_text t payload.now) at out.old out.new result }
+fn transmission(text: &mut Text, t: Transmission, payload: &[u8])
+    ensures { Wrote (transmission_text t payload.now) text.old text.new }
 {
     match t {
-        Transmission::Nothing => at,
-        Transmission::Control(h) => header(out, at, h, 255, payload),
+        Transmission::Nothing => {}
+        Transmission::Control(h) => header(text, h, 255, payload),
         Transmission::Request {
             slot,
-            kind: _,
             header: h,
-        } => header(out, at, h, slot, payload),
+            ..
+        } => header(text, h, slot, payload),
     }
 }
 
 // T; `payload` is the front of the payload array, of the length answered.
-pub fn turn(out: &mut [u8], at: usize, a: TurnAnswer, payload: &[u8]) -> usize
-    ensures { Wrote (turn_text a payload.now) at out.old out.new result }
+pub fn turn(text: &mut Text, a: TurnAnswer, payload: &[u8])
+    ensures { Wrote (turn_text a payload.now) text.old text.new }
 {
-    let event = a.event;
-    let handle = a.handle;
-    let t = a.transmission;
-    let list = [
-        a.refusal as u64,
-        write::flag(a.cycle_completed),
-        a.offline as u64,
-        event.number() as u64,
-        handle.slot as u64,
+    text.put(b'T');
+    text.fields(&[
+        u64::from(a.refusal),
+        u64::from(a.cycle_completed),
+        u64::from(a.offline),
+        u64::from(u8::from(a.event)),
+        u64::from(a.handle.slot),
         a.len as u64,
-        sent(t),
-    ];
-    let letter = write::put(out, at, b'T');
-    let after = write::fields(out, letter, &list);
-    let next = transmission(out, after, t, payload);
-    write::put(out, next, b'\n')
+        sent(a.transmission),
+    ]);
+    transmission(text, a.transmission, payload);
+    text.put(b'\n');
 }
 
 // R: the number, cycle-completed, the event and its slot.
-pub fn reply(out: &mut [u8], at: usize, a: ReplyAnswer) -> usize
-    ensures { Wrote (reply_text a) at out.old out.new result }
+pub fn reply(text: &mut Text, a: ReplyAnswer)
+    ensures { Wrote (reply_text a) text.old text.new }
 {
-    let event = a.event;
-    let handle = a.handle;
-    let list = [
-        a.refusal as u64,
-        write::flag(a.cycle_completed),
-        event.number() as u64,
-        handle.slot as u64,
-    ];
-    let letter = write::put(out, at, b'R');
-    let next = write::fields(out, letter, &list);
-    write::put(out, next, b'\n')
+    text.put(b'R');
+    text.fields(&[
+        u64::from(a.refusal),
+        u64::from(a.cycle_completed),
+        u64::from(u8::from(a.event)),
+        u64::from(a.handle.slot),
+    ]);
+    text.put(b'\n');
 }
 
 // I and O: the number, the length of the part, and its bytes.
-pub fn image(out: &mut [u8], at: usize, letter: u8, refusal: u8, part: &[u8]) -> usize
-    ensures { Wrote (image_text letter refusal part.now) at out.old out.new result }
+pub fn image(text: &mut Text, letter: u8, refusal: u8, part: &[u8])
+    ensures { Wrote (image_text letter refusal part.now) text.old text.new }
 {
-    let list = [refusal as u64, part.len() as u64];
-    let first = write::put(out, at, letter);
-    let after = write::fields(out, first, &list);
-    let next = write::bytes(out, after, part);
-    write::put(out, next, b'\n')
+    text.put(letter);
+    text.fields(&[u64::from(refusal), part.len() as u64]);
+    text.bytes(part);
+    text.put(b'\n');
 }
 
 // G: the number, whether one is held, its flags, ident and master, and the extended part.
-pub fn diagnosis(out: &mut [u8], at: usize, refusal: u8, d: DiagnosticsInfo, part: &[u8]) -> usize
-    ensures { Wrote (diagnosis_text refusal d part.now) at out.old out.new result }
+pub fn diagnosis(text: &mut Text, refusal: u8, d: DiagnosticsInfo, part: &[u8])
+    ensures { Wrote (diagnosis_text refusal d part.now) text.old text.new }
 {
-    let list = [
-        refusal as u64,
-        write::flag(d.held),
-        d.flags as u64,
-        d.ident_number as u64,
-        d.master_address as u64,
+    text.put(b'G');
+    text.fields(&[
+        u64::from(refusal),
+        u64::from(d.held),
+        u64::from(d.flags),
+        u64::from(d.ident_number),
+        u64::from(d.master_address),
         part.len() as u64,
-    ];
-    let first = write::put(out, at, b'G');
-    let after = write::fields(out, first, &list);
-    let next = write::bytes(out, after, part);
-    write::put(out, next, b'\n')
+    ]);
+    text.bytes(part);
+    text.put(b'\n');
 }
 
 // H; `listed` are the listed entries, three bytes each, and `all` the whole list array.
-pub fn listing(out: &mut [u8], at: usize, refusal: u8, listed: &[u8], all: &[u8]) -> usize
-    ensures { Wrote (listing_text refusal listed.now all.now) at out.old out.new result }
+pub fn listing(text: &mut Text, refusal: u8, listed: &[u8], all: &[u8])
+    ensures { Wrote (listing_text refusal listed.now all.now) text.old text.new }
 {
-    let list = [refusal as u64, (listed.len() / 3) as u64];
-    let first = write::put(out, at, b'H');
-    let after = write::fields(out, first, &list);
-    let entries = write::byte_fields(out, after, listed);
-    let next = write::field(out, entries, write::sum(all));
-    write::put(out, next, b'\n')
+    text.put(b'H');
+    text.fields(&[u64::from(refusal), (listed.len() / 3) as u64]);
+    for &b in listed {
+        text.field(u64::from(b));
+    }
+    text.field(write::sum(all));
+    text.put(b'\n');
 }

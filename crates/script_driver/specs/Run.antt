@@ -1,13 +1,13 @@
 -- The unit and the lent lengths between two lines, and which call a line makes.
 -- From docs/SCRIPTS.md, "What the program holds", "Fields" (what is no call) and "Calls" (L).
-use Rattle.std.specs.Prelude.{Bool, true, false, cond}
+use Rattle.std.specs.Prelude.{Bool, true, false, Option, Some, None, if◌then◌else◌}
 use Rattle.fdl.specs.declared.parameters.Parameters.{Parameters}
 use Rattle.fdl.specs.Params.{lowest}
 use Rattle.master.specs.declared.unit.DpMaster.{DpMaster}
 use Rattle.master.specs.Unit.{created_of}
 use Rattle.script_lines.specs.declared.Lent.{Lent}
 use Rattle.script_lines.specs.declared.Call.{Call}
-use Rattle.script_lines.specs.declared.Call.TheVariants.{Unknown, New, Lend, FillPools, FillPayload, Add, State, Turn, Reply, Reset, Wish, Write, Inputs, Outputs, Diagnosis, Listing, Dump, Payload}
+use Rattle.script_lines.specs.declared.Call.TheVariants.{New}
 use Rattle.script_driver.specs.declared.run.Run.{Run}
 use Rattle.script_driver.specs.declared.run.Made.{Made}
 
@@ -35,27 +35,16 @@ lend_is l run = record { unit = run.unit; made = run.made; own = run.own; lent =
 abbrev pub after_call : DpMaster → Run → Run
 after_call m run = record { unit = m; made = run.made; own = run.own; lent = run.own }
 
+-- the call of an N
+abbrev pub is_new : Call → Bool
+is_new (New p) = true
+is_new c = false
+
 -- before the first N a line is no call, unless it is an N
-abbrev pub only_new : Call → Call
-only_new Unknown = Unknown
-only_new (New p) = New p
-only_new (Lend l) = Unknown
-only_new (FillPools b) = Unknown
-only_new (FillPayload b) = Unknown
-only_new (Add a user config) = Unknown
-only_new (State s) = Unknown
-only_new (Turn time high) = Unknown
-only_new (Reply address t len) = Unknown
-only_new (Reset h address) = Unknown
-only_new (Wish h) = Unknown
-only_new (Write h len) = Unknown
-only_new (Inputs h) = Unknown
-only_new (Outputs h) = Unknown
-only_new (Diagnosis h) = Unknown
-only_new Listing = Unknown
-only_new Dump = Unknown
-only_new Payload = Unknown
+abbrev pub only_new : Option Call → Option Call
+only_new None = None
+only_new (Some c) = if is_new c then Some c else None
 
 -- a line that is too long is no call
-abbrev pub call_made : Bool → Bool → Call → Call
-call_made made long call = cond long Unknown (cond made call (only_new call))
+abbrev pub call_made : Bool → Bool → Option Call → Option Call
+call_made made long call = if long then None else (if made then call else only_new call)

@@ -1,6 +1,6 @@
 // The unit and the lent lengths between two lines.
 ghost use Rattle.std.specs.Prelude.{◌≡◌};
-ghost use Rattle.script_driver.specs.Run.{run_lent, nothing_made, made_of, lend_is, after_call, only_new, call_made};
+ghost use Rattle.script_driver.specs.Run.{run_lent, nothing_made, made_of, lend_is, after_call, call_made};
 
 use fdl::parameters::Parameters;
 use master::unit::DpMaster;
@@ -82,72 +82,24 @@ impl Run {
     pub fn lend(self, lent: Lent) -> Run
         ensures { result ≡ lend_is lent self }
     {
-        let mut r = self;
-        r.lent = lent;
-        r
+        Run { lent, ..self }
     }
 
     // With the unit that a call left, and the lent lengths as N set them.
     pub fn after(self, unit: DpMaster) -> Run
         ensures { result ≡ after_call unit self }
     {
-        let mut r = self;
-        let own = self.own;
-        r.unit = unit;
-        r.lent = own;
-        r
+        Run {
+            unit,
+            lent: self.own,
+            ..self
+        }
     }
 }
 
-// A line before the first N is no call, unless it is an N.
-fn only_new(call: Call) -> Call
-    ensures { result ≡ only_new call }
-{
-    match call {
-        Call::New(p) => Call::New(p),
-        Call::Unknown => Call::Unknown,
-        Call::Lend(_) => Call::Unknown,
-        Call::FillPools(_) => Call::Unknown,
-        Call::FillPayload(_) => Call::Unknown,
-        Call::Add {
-            addition: _,
-            user: _,
-            config: _,
-        } => Call::Unknown,
-        Call::State(_) => Call::Unknown,
-        Call::Turn {
-            time: _,
-            high_prio_only: _,
-        } => Call::Unknown,
-        Call::Reply {
-            address: _,
-            telegram: _,
-            len: _,
-        } => Call::Unknown,
-        Call::Reset {
-            handle: _,
-            address: _,
-        } => Call::Unknown,
-        Call::Wish(_) => Call::Unknown,
-        Call::Write { handle: _, len: _ } => Call::Unknown,
-        Call::Inputs(_) => Call::Unknown,
-        Call::Outputs(_) => Call::Unknown,
-        Call::Diagnosis(_) => Call::Unknown,
-        Call::Listing => Call::Unknown,
-        Call::Dump => Call::Unknown,
-        Call::Payload => Call::Unknown,
-    }
-}
-
-// The call that a line makes: none where the line is too long.
-pub fn call_made(made: bool, long: bool, call: Call) -> Call
+// The call that a line makes: none where the line is too long, nor before the first N, unless it is an N.
+pub fn call_made(made: bool, long: bool, call: Option<Call>) -> Option<Call>
     ensures { result ≡ call_made made long call }
 {
-    if long {
-        return Call::Unknown;
-    }
-    if made {
-        return call;
-    }
-    only_new(call)
+    call.filter(|c| !long && (made || matches!(c, Call::New(_))))
 }

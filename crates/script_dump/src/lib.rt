@@ -11,7 +11,7 @@ use fdl::parameters::Parameters;
 use master::unit::{DpMaster, Used};
 use peripheral::record::Peripheral;
 use peripheral_set::SLOTS;
-use script_fields::write;
+use script_fields::write::Text;
 
 // The checksums of the four whole pool arrays.
 #[derive(Clone, Copy)]
@@ -37,150 +37,128 @@ fn time_of(known: bool, time: u64) -> u64
 fn slot_of(known: bool, slot: u8) -> u64
     ensures { result ≡ cond known slot 255 }
 {
-    if known { slot as u64 } else { 255 }
+    if known { u64::from(slot) } else { 255 }
 }
 
-fn parameters(out: &mut [u8], at: usize, u: Parameters) -> usize
-    ensures { Wrote (parameters_text u) at out.old out.new result }
+fn parameters(text: &mut Text, u: Parameters)
+    ensures { Wrote (parameters_text u) text.old text.new }
 {
-    let list = [
-        u.address as u64,
-        u.max_retry_limit as u64,
-        u.slot_time as u64,
-        write::flag(u.watchdog),
-        u.watchdog_first as u64,
-        u.watchdog_second as u64,
-        write::wide(u.min_tsdr_bits),
-        u.setup_pool as u64,
-        u.input_pool as u64,
-        u.output_pool as u64,
-        u.diag_pool as u64,
-    ];
-    write::fields(out, at, &list)
+    text.fields(&[
+        u64::from(u.address),
+        u64::from(u.max_retry_limit),
+        u64::from(u.slot_time),
+        u64::from(u.watchdog),
+        u64::from(u.watchdog_first),
+        u64::from(u.watchdog_second),
+        u64::from(u.min_tsdr_bits),
+        u64::from(u.setup_pool),
+        u64::from(u.input_pool),
+        u64::from(u.output_pool),
+        u64::from(u.diag_pool),
+    ]);
 }
 
-fn state(out: &mut [u8], at: usize, s: DpMasterState) -> usize
-    ensures { Wrote (state_text s) at out.old out.new result }
+fn state(text: &mut Text, s: DpMasterState)
+    ensures { Wrote (state_text s) text.old text.new }
 {
-    let list = [
-        s.operating as u64,
-        write::flag(s.has_turned),
+    text.fields(&[
+        u64::from(s.operating),
+        u64::from(s.has_turned),
         time_of(s.has_turned, s.last_turn),
-        write::flag(s.controlled),
+        u64::from(s.controlled),
         time_of(s.controlled, s.last_control),
         slot_of(!s.completed, s.slot),
         slot_of(s.open_kind != 0, s.open_slot),
-        s.open_kind as u64,
-    ];
-    write::fields(out, at, &list)
+        u64::from(s.open_kind),
+    ]);
 }
 
-fn pools(out: &mut [u8], at: usize, used: Used, sums: Sums) -> usize
-    ensures { Wrote (pools_text used sums) at out.old out.new result }
+fn pools(text: &mut Text, used: Used, sums: Sums)
+    ensures { Wrote (pools_text used sums) text.old text.new }
 {
-    let list = [
-        used.setup as u64,
-        used.inputs as u64,
-        used.outputs as u64,
-        used.diags as u64,
+    text.fields(&[
+        u64::from(used.setup),
+        u64::from(used.inputs),
+        u64::from(used.outputs),
+        u64::from(used.diags),
         sums.setup,
         sums.inputs,
         sums.outputs,
         sums.diags,
-    ];
-    write::fields(out, at, &list)
+    ]);
 }
 
 // The length of set-up data; `x` where it is absent.
-fn setup_len(out: &mut [u8], at: usize, present: bool, len: u8) -> usize
-    ensures { Wrote (setup_text present len) at out.old out.new result }
+fn setup_len(text: &mut Text, present: bool, len: u8)
+    ensures { Wrote (setup_text present len) text.old text.new }
 {
     if present {
-        return write::field(out, at, len as u64);
+        text.field(u64::from(len));
+    } else {
+        text.put(b' ');
+        text.put(b'x');
     }
-    let next = write::put(out, at, b' ');
-    write::put(out, next, b'x')
 }
 
 // The 25 fields of an occupied slot.
-fn slot(out: &mut [u8], at: usize, slot: usize, p: Peripheral) -> usize
-    ensures { Wrote (slot_text slot p) at out.old out.new result }
+fn slot(text: &mut Text, slot: usize, p: &Peripheral)
+    ensures { Wrote (slot_text slot p.now) text.old text.new }
 {
     let t = p.station;
     let d = t.last_diagnostics();
     let o = p.options;
     let r = p.ranges;
-    let first = [
+    text.fields(&[
         slot as u64,
-        t.address as u64,
-        t.state as u64,
-        t.retry_count as u64,
-        t.fcb as u64,
-        write::flag(t.diag_needed),
-        write::flag(d.held),
-        d.flags as u64,
-        d.ident_number as u64,
-        d.master_address as u64,
-        t.stored_part() as u64,
-        o.ident_number as u64,
-        write::flag(o.sync_mode),
-        write::flag(o.freeze_mode),
-        o.groups as u64,
-        write::flag(o.fail_safe),
-    ];
-    let second = [
-        r.input_len as u64,
-        r.output_len as u64,
-        r.diag_room as u64,
-        r.setup as u64,
-        r.inputs as u64,
-        r.outputs as u64,
-        r.diag as u64,
-    ];
-    let a = write::fields(out, at, &first);
-    let b = setup_len(out, a, o.has_user_parameters, o.user_parameters);
-    let c = setup_len(out, b, o.has_config, o.config);
-    write::fields(out, c, &second)
-}
-
-// The same where the slot is occupied, else nothing.
-fn slot_if(out: &mut [u8], at: usize, occupied: bool, i: usize, p: Peripheral) -> usize
-    ensures { Wrote (slot_if occupied i p) at out.old out.new result }
-{
-    if occupied {
-        return slot(out, at, i, p);
-    }
-    at
+        u64::from(t.address),
+        u64::from(t.state),
+        u64::from(t.retry_count),
+        u64::from(t.fcb),
+        u64::from(t.diag_needed),
+        u64::from(d.held),
+        u64::from(d.flags),
+        u64::from(d.ident_number),
+        u64::from(d.master_address),
+        u64::from(t.stored_part()),
+        u64::from(o.ident_number),
+        u64::from(o.sync_mode),
+        u64::from(o.freeze_mode),
+        u64::from(o.groups),
+        u64::from(o.fail_safe),
+    ]);
+    setup_len(text, o.has_user_parameters, o.user_parameters);
+    setup_len(text, o.has_config, o.config);
+    text.fields(&[
+        u64::from(r.input_len),
+        u64::from(r.output_len),
+        u64::from(r.diag_room),
+        u64::from(r.setup),
+        u64::from(r.inputs),
+        u64::from(r.outputs),
+        u64::from(r.diag),
+    ]);
 }
 
 // Each occupied slot, rising.
-fn slots(out: &mut [u8], at: usize, marks: [bool; SLOTS], all: [Peripheral; SLOTS]) -> usize
-    ensures { Wrote (slots_from slot_count marks all 0) at out.old out.new result }
+fn slots(text: &mut Text, marks: &[bool; SLOTS], all: &[Peripheral; SLOTS])
+    ensures { Wrote (slots_from slot_count marks.now all.now 0) text.old text.new }
 {
-    let mut next = at;
-    let mut i = 0;
-    while i < SLOTS {
-        let p = all[i];
-        next = slot_if(out, next, marks[i], i, p);
-        i += 1;
+    for (i, p) in all.iter().enumerate() {
+        if marks[i] {
+            slot(text, i, p);
+        }
     }
-    next
 }
 
 // D: parameters, state, used lengths, the four sums, the number of balances and 25 fields for each.
-pub fn line(out: &mut [u8], at: usize, m: DpMaster, sums: Sums) -> usize
-    ensures { Wrote (dump_text m sums) at out.old out.new result }
+pub fn line(text: &mut Text, m: &DpMaster, sums: Sums)
+    ensures { Wrote (dump_text m.now sums) text.old text.new }
 {
-    let marks = m.occupied;
-    let all = m.peripherals;
-    let u = m.parameters;
-    let s = m.state;
-    let used = m.used;
-    let letter = write::put(out, at, b'D');
-    let a = parameters(out, letter, u);
-    let b = state(out, a, s);
-    let c = pools(out, b, used, sums);
-    let n = write::field(out, c, peripheral_set::count(marks) as u64);
-    let next = slots(out, n, marks, all);
-    write::put(out, next, b'\n')
+    text.put(b'D');
+    parameters(text, m.parameters);
+    state(text, m.state);
+    pools(text, m.used, sums);
+    text.field(peripheral_set::count(m.occupied) as u64);
+    slots(text, &m.occupied, &m.peripherals);
+    text.put(b'\n');
 }

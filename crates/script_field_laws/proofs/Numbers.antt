@@ -10,12 +10,11 @@ use lib.Dec.{ltb, eqb}
 use borrow.Author.Tests.{le-leb, ltb-true, ltb-false, ne_eqb}
 use Rattle.parts.proofs.Laws.{by_test}
 use Rattle.script_fields.specs.Write.{digit_of, decimal_in, decimal}
-use Rattle.script_fields.specs.Read.{right, has_at, found, is_digit, digits_from, number_from, number_on, number_at}
+use Rattle.script_fields.specs.Read.{has_at, found, is_digit, digits_from, number_from, number_at}
 use Rattle.script_field_laws.specs.Text.{Holds, no_digit, tens}
 use Rattle.script_field_laws.proofs.Places.{has_there, byte_there, behind_it, space_there}
 
 digit-of : (n : ℕ) → is_digit (digit_of n) ≡ true
-unfolding is_digit
 digit-of n = rw (le-leb 48 (48 + n % 10) (omega arith), le-leb (48 + n % 10) 57 (omega arith))
 
 -- one digit is read
@@ -100,8 +99,8 @@ number-from limit s at (suc m) rest b h e q =
 
 -- a number of at most the limit that was written after a space, with no digit behind it, is read back
 pub number-back : (limit : ℕ) (s : List ℕ) (at n : ℕ) (rest : List ℕ) → n < 18446744073709551616 → n ≤ limit → no_digit rest ≡ true → Holds s at (decimal n) rest
-    → number_at limit s (right at) ≡ found n (at + 1 + length (decimal n))
-unfolding number_at number_on
+    → number_at limit s at ≡ found n (at + 1 + length (decimal n))
+unfolding number_at
 number-back limit s at n rest b h e q =
     rw (space_there s at (decimal n) rest q)
     (number-from limit s (at + 1) n rest (omega arith) h e (behind_it s at 32 (decimal n ++ rest) q))

@@ -7,7 +7,8 @@ use lib.ListN.{length, get_or, drop, length-drop}
 use lib.Seq.{drop-drop, get_or-drop}
 use lib.Dec.{eqb}
 use borrow.Author.Tests.{lt-ltb}
-use Rattle.script_fields.specs.Read.{right, has_at, space_on, space_at}
+use Rattle.std.specs.Prelude.{Some}
+use Rattle.script_fields.specs.Read.{has_at, space_at}
 use Rattle.script_field_laws.specs.Text.{Holds}
 
 module _ (s : List ℕ) (at b : ℕ) (l : List ℕ) (h : drop at s ≡ b ∷ l) where
@@ -27,6 +28,6 @@ module _ (s : List ℕ) (at b : ℕ) (l : List ℕ) (h : drop at s ≡ b ∷ l) 
   behind_it = sym (drop-drop 1 at s) ∙ ap (drop 1) h
 
 -- the space is passed
-pub space_there : (s : List ℕ) (at : ℕ) (w rest : List ℕ) → Holds s at w rest → space_at s (right at) ≡ right (at + 1)
-unfolding space_on
+pub space_there : (s : List ℕ) (at : ℕ) (w rest : List ℕ) → Holds s at w rest → space_at s at ≡ Some (at + 1)
+unfolding space_at
 space_there s at w rest h = rw (has_there s at 32 (w ++ rest) h)

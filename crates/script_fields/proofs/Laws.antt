@@ -1,14 +1,22 @@
 -- The laws of reading and writing that the proofs here cite.
--- The idea: a loop's invariant says that what is left to do gives the whole, so each law is one step of a definition, at any place of a list.
+-- The idea: where a loop reads, what is left to do gives the whole; where it writes, what was gone over is written. So each law is one step of a definition, at any place of a list.
 use mathlib.Core.Path.{◌≡◌, refl, sym, ap, ◌∙◌, subst}
+use mathlib.Core.Bool.{true, false}
 use mathlib.Core.List.{List, [], ◌∷◌, ◌++◌}
-use Prim.Native.Nat.{ℕ, zero, suc, ◌+◌, ◌-◌, ◌/◌, ◌%◌, ◌≤◌, ◌<◌}
+use Prim.Native.Nat.{ℕ, zero, suc, ◌+◌, ◌/◌, ◌^◌, ◌≤◌, ◌<◌}
 use native.Mathlib.Numerals.{add-one}
 use native.Mathlib.Omega.{arith}
-use lib.ListN.{length, get_or, drop, set, drop_of_length-le}
+use lib.Dec.{ltb}
+use lib.ListN.{length, get_or, take, drop, set, drop_of_length-le}
 use lib.Seq.{drop-cons}
 use borrow.Author.Tests.{lt-ltb, le-ltb}
-use Rattle.script_fields.specs.Write.{Out, standing, put, written, field_text, fields_text, hex_digit, hex_text, bytes_text, decimal_in, digit_of, sum_from, sum_step}
+use Rattle.std.specs.Bool.{◌==◌}
+use Rattle.std.specs.List.{flat_map}
+use Rattle.std.proofs.lemmas.Bool.Decides.{nat_tests}
+use Rattle.std.proofs.lemmas.Grind.{common_steps, pow_more}
+use Rattle.parts.proofs.Laws.{by_test}
+use Rattle.script_fields.specs.declared.write.Text.{Text}
+use Rattle.script_fields.specs.Write.{Out, standing, put, written, with_out, Wrote, digit_of, decimal_in, decimal, field_text, fields_text, hex_text, bytes_text}
 
 -- ---- lists
 
@@ -34,70 +42,60 @@ unfolding written
 written-append [] b o = refl
 written-append (x ∷ a) b o = written-append a b (put x o)
 
--- a, and then b
-pub then : (a b : List ℕ) (o x y : Out) → x ≡ written a o → y ≡ written b x → y ≡ written (a ++ b) o
-then a b o x y p q = q ∙ ap (written b) p ∙ sym (written-append a b o)
-
--- of the text t, which gives all, w was written, and l is left
-pub left_to_write : (t w l : List ℕ) (o x all : Out) → t ≡ w ++ l → x ≡ written w o → written t o ≡ all → written l x ≡ all
-left_to_write t w l o x all e p q = ap (written l) p ∙ sym (written-append w l o) ∙ ap (λ (v : List ℕ). written v o) (sym e) ∙ q
-
--- nothing is left to write
-pub all_written : (t : List ℕ) (o all : Out) → t ≡ [] → written t o ≡ all → o ≡ all
+-- nothing
+pub wrote_none : {t : Text} → Wrote [] t t
 unfolding written
-all_written t o all e q = sym (ap (λ (v : List ℕ). written v o) e) ∙ q
+wrote_none = record { text = refl }
+
+-- a, and then b
+pub then : {a b : List ℕ} {o x y : Text} → Wrote a o x → Wrote b x y → Wrote (a ++ b) o y
+then {a = a} {b = b} {o = o} p q = record {
+  text = q.text ∙ ap (λ (x : Text). with_out x (written b (standing x.at x.out.now))) p.text ∙ ap (with_out o) (sym (written-append a b (standing o.at o.out.now)));
+}
+
+-- of the texts that f makes of a list, one more
+pub one_more : (f : ℕ → List ℕ) (l : List ℕ) (i : ℕ) {o x y : Text} → i < length l → Wrote (flat_map f (take i l)) o x → Wrote (f (get_or l i 0)) x y → Wrote (flat_map f (take (i + 1) l)) o y
+one_more f l i {o = o} {y = y} h p q =
+    let e : flat_map f (take (i + 1) l) ≡ flat_map f (take i l) ++ f (get_or l i 0) = grind (arith, common_steps) in
+    subst (λ (w : List ℕ). Wrote w o y) (sym e) (then p q)
+
+-- none is left
+pub whole_list : (f : ℕ → List ℕ) (l : List ℕ) (i : ℕ) {o x : Text} → length l ≤ i → Wrote (flat_map f (take i l)) o x → Wrote (flat_map f l) o x
+whole_list f l i h p = let e : take i l ≡ l = grind (arith, common_steps) in rw e at p
+
+pub all_fields : (l : List ℕ) (i : ℕ) {o x : Text} → length l ≤ i → Wrote (flat_map field_text (take i l)) o x → Wrote (fields_text l) o x
+unfolding fields_text
+all_fields l i h p = whole_list field_text l i h p
+
+-- the fields of equal numbers
+pub fields : {l m : List ℕ} {o x : Text} → l ≡ m → Wrote (fields_text l) o x → Wrote (fields_text m) o x
+fields {o = o} {x = x} e p = subst (λ (n : List ℕ). Wrote (fields_text n) o x) e p
 
 -- ---- numbers
 
-pub decimal_none : (k n at : ℕ) (l : List ℕ) → k ≡ 0 → standing at l ≡ written (decimal_in k n) (standing at l)
-unfolding decimal_in written
-decimal_none zero n at l e = refl
-decimal_none (suc k) n at l e = absurd (omega arith)
-
-pub decimal_last : (k n d : ℕ) (o x : Out) → (k ≡ 0 → ⊥) → n < 10 → d ≡ digit_of n → x ≡ written (d ∷ []) o → x ≡ written (decimal_in k n) o
+-- room for one digit more changes nothing
+decimal_stays : (k n : ℕ) → n < 10 ^ suc k → decimal_in (suc (suc k)) n ≡ decimal_in (suc k) n
 unfolding decimal_in
-decimal_last zero n d o x z h e p = absurd (z refl)
-decimal_last (suc k) n d o x z h e p = rw (lt-ltb n 10 h, ← e) p
+decimal_stays zero n h = rw (lt-ltb n 10 h)
+decimal_stays (suc j) n h = by_test (ltb n 10) (λ t. rw t) (λ t. rw t (ap (λ (w : List ℕ). w ++ (digit_of n ∷ [])) (decimal_stays j (n / 10) (omega (arith, pow_more 10 (suc j))))))
 
-pub decimal_more : (k n d : ℕ) (o x y : Out) → (k ≡ 0 → ⊥) → 10 ≤ n → d ≡ digit_of n → x ≡ written (decimal_in (k - 1) (n / 10)) o → y ≡ written (d ∷ []) x
-    → y ≡ written (decimal_in k n) o
+next_digit : (k n : ℕ) → 10 ≤ n → decimal_in (suc k) n ≡ decimal_in k (n / 10) ++ (digit_of n ∷ [])
 unfolding decimal_in
-decimal_more zero n d o x y z h e p q = absurd (z refl)
-decimal_more (suc k) n d o x y z h e p q =
-    let m : suc k - 1 ≡ k = omega arith in
-    let p' : x ≡ written (decimal_in k (n / 10)) o = subst (λ (j : ℕ). x ≡ written (decimal_in j (n / 10)) o) m p in
-    rw (le-ltb n 10 h, ← e) (then (decimal_in k (n / 10)) (d ∷ []) o x y p' q)
+next_digit k n h = rw (le-ltb n 10 h)
 
-pub fields_next : (l : List ℕ) (i : ℕ) → i < length l → fields_text (drop i l) ≡ field_text (get_or l i 0) ++ fields_text (drop (i + 1) l)
-unfolding fields_text
-fields_next l i h = rw (next_of l i h)
+pub one_digit : (n : ℕ) → n < 10 → decimal n ≡ digit_of n ∷ []
+unfolding decimal_in
+one_digit n h = rw (lt-ltb n 10 h)
 
-pub fields_end : (l : List ℕ) (i : ℕ) → length l ≤ i → fields_text (drop i l) ≡ []
-unfolding fields_text
-fields_end l i h = rw (none_left l i h)
+pub more_digits : (n : ℕ) → n < 2 ^ 64 → 10 ≤ n → decimal n ≡ decimal (n / 10) ++ (digit_of n ∷ [])
+more_digits n b h = rw (decimal_stays 18 (n / 10) (omega arith)) (next_digit 19 n h)
 
-pub no_bytes : (l : List ℕ) → length l ≡ 0 → bytes_text l ≡ 45 ∷ []
+-- ---- bytes
+
+pub no_bytes : (l : List ℕ) → true ≡ (length l == 0) → bytes_text l ≡ 45 ∷ []
 no_bytes [] e = refl
-no_bytes (b ∷ l) e = absurd (omega arith)
+no_bytes (b ∷ l) e = grind (arith, nat_tests)
 
-pub some_bytes : (l : List ℕ) → (length l ≡ 0 → ⊥) → bytes_text l ≡ hex_text l
-some_bytes [] z = absurd (z refl)
-some_bytes (b ∷ l) z = refl
-
-pub hex_next : (l : List ℕ) (i : ℕ) → i < length l
-    → hex_text (drop i l) ≡ hex_digit (get_or l i 0 / 16) ∷ hex_digit (get_or l i 0 % 16) ∷ hex_text (drop (i + 1) l)
-unfolding hex_text
-hex_next l i h = rw (next_of l i h)
-
-pub hex_end : (l : List ℕ) (i : ℕ) → length l ≤ i → hex_text (drop i l) ≡ []
-unfolding hex_text
-hex_end l i h = rw (none_left l i h)
-
-pub sum-next : (h b all : ℕ) (l : List ℕ) (i : ℕ) → i < length l → b ≡ get_or l i 0 → sum_from h (drop i l) ≡ all → sum_from (sum_step h b) (drop (i + 1) l) ≡ all
-unfolding sum_from
-sum-next h b all l i p e q =
-    ap (λ (x : ℕ). sum_from (sum_step h x) (drop (i + 1) l)) e ∙ sym (ap (sum_from h) (next_of l i p)) ∙ q
-
-pub sum_end : (h : ℕ) (l : List ℕ) (i : ℕ) → length l ≤ i → sum_from h (drop i l) ≡ h
-unfolding sum_from
-sum_end h l i p = rw (none_left l i p)
+pub some_bytes : (l : List ℕ) → false ≡ (length l == 0) → bytes_text l ≡ hex_text l
+some_bytes [] e = grind (arith, nat_tests)
+some_bytes (b ∷ l) e = refl

@@ -1,83 +1,78 @@
 -- The fields of a line, read from a place on. From docs/SCRIPTS.md, "Fields": each after exactly one space.
-use Rattle.std.specs.Prelude.{ℕ, zero, suc, ◌+◌, ◌-◌, ◌*◌, ◌≡◌, Bool, true, false, ◌&&◌, cond, List, [], ◌∷◌, length, get_or, drop, ltb, leb, eqb}
+-- Where a line is wrong, nothing is read: None.
+use Rattle.std.specs.Prelude.{ℕ, zero, suc, ◌+◌, ◌-◌, ◌*◌, ◌≡◌, Bool, ◌&&◌, Option, Some, None, is_some, option_and_then, unwrap_or, List, [], ◌∷◌, length, drop, slice_index, nat_lt, nat_le, ◌==◌, if◌then◌else◌}
+use Rattle.std.specs.Option.{option_map_or}
 use Rattle.std.proofs.lemmas.List.Edits.{sets}
-use Rattle.script_fields.specs.declared.read.Cursor.{Cursor}
-use Rattle.script_fields.specs.declared.read.U64Field.{U64Field}
-use Rattle.script_fields.specs.declared.read.U8Field.{U8Field}
-use Rattle.script_fields.specs.declared.read.U16Field.{U16Field}
-use Rattle.script_fields.specs.declared.read.U32Field.{U32Field}
-use Rattle.script_fields.specs.declared.read.FlagField.{FlagField}
-use Rattle.script_fields.specs.declared.read.BytesField.{BytesField}
+
+-- a step that may find the line wrong, and the next one
+infixl 10 ◌>>=◌
+abbrev pub ◌>>=◌ : {A B : Type 0} → Option A → (A → Option B) → Option B
+o >>= f = option_and_then f o
+
+-- what was read, and the place behind it
+pub record Field (A : Type 0) : Type 0 where
+  pub value : A
+  pub next : ℕ
+
+-- what a reader answered, with the place where it stands then
+abbrev pub with_place : {A : Type 0} → Option A → ℕ → Option (Field A)
+with_place None at = None
+with_place (Some value) at = Some (record { value = value; next = at })
 
 -- ---- places
 
-abbrev pub wrong : Cursor
-wrong = record { at = 0; good = false }
-
-abbrev pub right : ℕ → Cursor
-right at = record { at = at; good = true }
-
 -- the byte b stands at a place of s
 unfoldable pub has_at : List ℕ → ℕ → ℕ → Bool
-has_at s at b = ltb at (length s) && eqb (get_or s at 0) b
+has_at s at b = nat_lt at (length s) && (slice_index s at == b)
 
--- exactly one space, where all was right before
-unfoldable pub space_on : List ℕ → Bool → ℕ → Cursor
-space_on s good at = cond (good && has_at s at 32) (right (at + 1)) wrong
+-- the place behind exactly one space
+unfoldable pub space_at : List ℕ → ℕ → Option ℕ
+space_at s at = if has_at s at 32 then Some (at + 1) else None
 
-abbrev pub space_at : List ℕ → Cursor → Cursor
-space_at s c = space_on s c.good c.at
+-- where a reader stands that found a field wrong: behind the space, if there is one
+abbrev pub behind_space : List ℕ → ℕ → ℕ
+behind_space s at = unwrap_or (space_at s at) at
 
--- the line ends there, and all was right
-unfoldable pub ends_on : List ℕ → Bool → ℕ → Bool
-ends_on s good at = good && eqb at (length s)
-
-abbrev pub ends_at : List ℕ → Cursor → Bool
-ends_at s c = ends_on s c.good c.at
+-- the line ends there
+abbrev pub ends_at : List ℕ → ℕ → Bool
+ends_at s at = at == length s
 
 -- ---- numbers
 
-abbrev pub found : ℕ → ℕ → U64Field
-found value at = record { value = value; next = right at }
+abbrev pub found : ℕ → ℕ → Option (Field ℕ)
+found value at = Some (record { value = value; next = at })
 
-abbrev pub no_number : U64Field
-no_number = record { value = 0; next = wrong }
+abbrev pub is_digit : ℕ → Bool
+is_digit b = nat_le 48 b && nat_le b 57
 
-unfoldable pub is_digit : ℕ → Bool
-is_digit b = leb 48 b && leb b 57
+-- a number of at most limit, with one digit more
+abbrev pub with_digit : ℕ → ℕ → ℕ → Option ℕ
+with_digit limit value digit = if nat_le (value * 10 + digit) limit then Some (value * 10 + digit) else None
 
 -- the digits that l begins with, behind digits worth value; at is the place of l in its line. Above the limit all is wrong
-unfoldable pub digits_from : ℕ → ℕ → ℕ → List ℕ → U64Field
+unfoldable pub digits_from : ℕ → ℕ → ℕ → List ℕ → Option (Field ℕ)
 digits_from limit value at [] = found value at
 digits_from limit value at (b ∷ l) =
-    cond (is_digit b)
-    (cond (leb (value * 10 + (b - 48)) limit) (digits_from limit (value * 10 + (b - 48)) (at + 1) l) no_number)
-    (found value at)
+    if is_digit b then option_and_then (λ more. digits_from limit more (at + 1) l) (with_digit limit value (b - 48))
+    else found value at
 
 -- decimal digits at a place, no leading zeros: behind a 0 the number ends
-unfoldable pub number_from : ℕ → List ℕ → ℕ → U64Field
+unfoldable pub number_from : ℕ → List ℕ → ℕ → Option (Field ℕ)
 number_from limit s at =
-    cond (has_at s at 48) (found 0 (at + 1)) (cond (is_digit (get_or s at 0)) (digits_from limit 0 at (drop at s)) no_number)
-
-unfoldable pub number_on : ℕ → List ℕ → Bool → ℕ → U64Field
-number_on limit s good at = cond good (number_from limit s at) no_number
+    if has_at s at 48 then found 0 (at + 1)
+    else (if is_digit (slice_index s at) then digits_from limit 0 at (drop at s) else None)
 
 -- a number of at most limit after a space
-unfoldable pub number_at : ℕ → List ℕ → Cursor → U64Field
-number_at limit s c = number_on limit s (space_at s c).good (space_at s c).at
+unfoldable pub number_at : ℕ → List ℕ → ℕ → Option (Field ℕ)
+number_at limit s at = do
+  first ← space_at s at
+  number_from limit s first
 
--- the same as a byte, as two bytes, as four, and as a flag
-abbrev pub small_at : ℕ → List ℕ → Cursor → U8Field
-small_at limit s c = record { value = (number_at limit s c).value; next = (number_at limit s c).next }
-
-abbrev pub wide_at : ℕ → List ℕ → Cursor → U16Field
-wide_at limit s c = record { value = (number_at limit s c).value; next = (number_at limit s c).next }
-
-abbrev pub word_at : ℕ → List ℕ → Cursor → U32Field
-word_at limit s c = record { value = (number_at limit s c).value; next = (number_at limit s c).next }
-
-abbrev pub flag_at : List ℕ → Cursor → FlagField
-flag_at s c = record { value = eqb (number_at 1 s c).value 1; next = (number_at 1 s c).next }
+-- the same as a flag
+abbrev pub flag_at : List ℕ → ℕ → Option (Field Bool)
+flag_at s at = do
+  n ← number_at 1 s at
+  Some (record { value = n.value == 1; next = n.next })
 
 -- ---- bytes
 
@@ -85,66 +80,83 @@ flag_at s c = record { value = eqb (number_at 1 s c).value 1; next = (number_at 
 abbrev pub most : ℕ
 most = 255
 
--- what a lower-case hex digit is worth; 16 where it is none
-unfoldable pub hex_worth : ℕ → ℕ
-hex_worth b = cond (is_digit b) (b - 48) (cond (ltb b 97) 16 (cond (ltb 102 b) 16 (b - 87)))
+-- what a lower-case hex digit is worth
+abbrev pub hex_worth : ℕ → Option ℕ
+hex_worth b =
+    if is_digit b then Some (b - 48)
+    else (if nat_le 97 b && nat_le b 102 then Some (b - 87) else None)
+
+-- the byte whose two hex digits l begins with
+abbrev pub pair_of : List ℕ → Option ℕ
+pair_of [] = None
+pair_of (a ∷ []) = None
+pair_of (a ∷ b ∷ l) = do
+  high ← hex_worth a
+  low ← hex_worth b
+  Some (high * 16 + low)
 
 -- l begins with two hex digits
-unfoldable pub is_pair : List ℕ → Bool
-is_pair l = leb 2 (length l) && (leb (hex_worth (get_or l 0 0)) 15 && leb (hex_worth (get_or l 1 0)) 15)
+abbrev pub is_pair : List ℕ → Bool
+is_pair l = is_some (pair_of l)
 
 -- the bytes that l begins with, two hex digits each, and at most so many
 unfoldable pub pairs_of : ℕ → List ℕ → List ℕ
 pairs_of zero l = []
-pairs_of (suc k) l = cond (is_pair l) ((hex_worth (get_or l 0 0) * 16 + hex_worth (get_or l 1 0)) ∷ pairs_of k (drop 2 l)) []
+pairs_of (suc k) l = option_map_or (λ b. b ∷ pairs_of k (drop 2 l)) (pair_of l) []
 
--- the bytes of a field that begins at a place, where all was right before; none where it is `-`
-unfoldable pub pairs_on : List ℕ → Bool → ℕ → List ℕ
-pairs_on s good at = cond good (cond (has_at s at 45) [] (pairs_of most (drop at s))) []
+-- the bytes of a field that begins at a place; none where it is `-`
+unfoldable pub pairs_from : List ℕ → ℕ → List ℕ
+pairs_from s at = if has_at s at 45 then [] else pairs_of most (drop at s)
 
 -- the bytes of a field after a space
-unfoldable pub pairs_at : List ℕ → Cursor → List ℕ
-pairs_at s c = pairs_on s (space_at s c).good (space_at s c).at
+unfoldable pub pairs_at : List ℕ → ℕ → List ℕ
+pairs_at s at = option_map_or (pairs_from s) (space_at s at) []
 
-abbrev pub some_bytes : ℕ → ℕ → BytesField
-some_bytes len at = record { present = true; len = len; next = right at }
-
-abbrev pub no_bytes : BytesField
-no_bytes = record { present = false; len = 0; next = wrong }
+abbrev pub some_bytes : ℕ → ℕ → Option (Field ℕ)
+some_bytes len at = Some (record { value = len; next = at })
 
 -- the same field, of which n bytes were read: `-`, or two digits a byte
-unfoldable pub bytes_on : List ℕ → Bool → ℕ → ℕ → BytesField
-bytes_on s good at n =
-    cond good (cond (has_at s at 45) (some_bytes 0 (at + 1)) (cond (ltb 0 n) (some_bytes n (at + 2 * n)) no_bytes)) no_bytes
+unfoldable pub bytes_from : List ℕ → ℕ → ℕ → Option (Field ℕ)
+bytes_from s at n =
+    if has_at s at 45 then some_bytes 0 (at + 1)
+    else (if nat_lt 0 n then some_bytes n (at + 2 * n) else None)
 
--- BYTES after a space
-unfoldable pub bytes_at : List ℕ → Cursor → BytesField
-bytes_at s c = bytes_on s (space_at s c).good (space_at s c).at (length (pairs_at s c))
+-- how many bytes a field after a space has
+unfoldable pub bytes_at : List ℕ → ℕ → Option (Field ℕ)
+bytes_at s at = do
+  first ← space_at s at
+  bytes_from s first (length (pairs_from s first))
 
 -- an array with some bytes at its front
 abbrev pub front : List ℕ → List ℕ → List ℕ
 front new old = sets old 0 new
 
 -- what a reader of bytes promises: the answer, and what stands in the lent array then
-pub record BytesRead (s : List ℕ) (c : Cursor) (old out : List ℕ) (r : BytesField) : Type 0 where
-  pub answer : r ≡ bytes_at s c
-  pub bytes : out ≡ front (pairs_at s c) old
+pub record BytesRead (s : List ℕ) (at : ℕ) (old out : List ℕ) (r : Option (Field ℕ)) : Type 0 where
+  pub answer : r ≡ bytes_at s at
+  pub bytes : out ≡ front (pairs_at s at) old
 
--- `x` at a place, where all was right before
-unfoldable pub absent_on : List ℕ → Bool → ℕ → Bool
-absent_on s good at = good && has_at s at 120
+-- SETUP that begins at a place: `x` is absent, and all else as BYTES
+unfoldable pub setup_from : List ℕ → ℕ → Option (Field (Option ℕ))
+setup_from s at =
+    if has_at s at 120 then Some (record { value = None; next = at + 1 })
+    else (do
+      n ← bytes_from s at (length (pairs_from s at))
+      Some (record { value = Some n.value; next = n.next }))
 
-unfoldable pub is_absent : List ℕ → Cursor → Bool
-is_absent s c = absent_on s (space_at s c).good (space_at s c).at
+-- SETUP after a space
+unfoldable pub setup_at : List ℕ → ℕ → Option (Field (Option ℕ))
+setup_at s at = do
+  first ← space_at s at
+  setup_from s first
 
--- SETUP after a space: absent, or as BYTES
-unfoldable pub setup_at : List ℕ → Cursor → BytesField
-setup_at s c = cond (is_absent s c) (record { present = false; len = 0; next = right ((space_at s c).at + 1) }) (bytes_at s c)
+-- the bytes of set-up data that begins at a place, and after a space
+unfoldable pub setup_bytes_from : List ℕ → ℕ → List ℕ
+setup_bytes_from s at = if has_at s at 120 then [] else pairs_from s at
 
--- the bytes of set-up data
-unfoldable pub setup_bytes : List ℕ → Cursor → List ℕ
-setup_bytes s c = cond (is_absent s c) [] (pairs_at s c)
+unfoldable pub setup_bytes : List ℕ → ℕ → List ℕ
+setup_bytes s at = option_map_or (setup_bytes_from s) (space_at s at) []
 
-pub record SetupRead (s : List ℕ) (c : Cursor) (old out : List ℕ) (r : BytesField) : Type 0 where
-  pub answer : r ≡ setup_at s c
-  pub bytes : out ≡ front (setup_bytes s c) old
+pub record SetupRead (s : List ℕ) (at : ℕ) (old out : List ℕ) (r : Option (Field (Option ℕ))) : Type 0 where
+  pub answer : r ≡ setup_at s at
+  pub bytes : out ≡ front (setup_bytes s at) old

@@ -1,5 +1,8 @@
 -- The fields of an answer as bytes, and how they come into a buffer. From docs/SCRIPTS.md, "Fields" and "Answers" (checksum).
-use Rattle.std.specs.Prelude.{◌≡◌, ℕ, zero, suc, ◌+◌, ◌*◌, ◌/◌, ◌%◌, Bool, true, false, cond, List, [], ◌∷◌, ◌++◌, length, set, ltb}
+use Rattle.std.specs.Int.{from_bool}
+use Rattle.std.specs.List.{fold, flat_map}
+use Rattle.std.specs.Prelude.{◌≡◌, ℕ, zero, suc, ◌+◌, ◌*◌, ◌/◌, ◌%◌, Bool, cond, List, [], ◌∷◌, ◌++◌, length, set, ltb}
+use Rattle.script_fields.specs.declared.write.Text.{Text}
 
 -- ---- an output buffer
 
@@ -20,9 +23,13 @@ unfoldable pub written : List ℕ → Out → Out
 written [] o = o
 written (b ∷ w) o = written w (put b o)
 
--- what a function promises that writes w behind the place at of old: out is left, and next is the place behind
-abbrev pub Wrote : List ℕ → ℕ → List ℕ → List ℕ → ℕ → Type 0
-Wrote w at old out next = standing next out ≡ written w (standing at old)
+-- the same lent buffer with other bytes, and another place
+abbrev pub with_out : Text → Out → Text
+with_out t o = record { out = record t.out { now = o.bytes }; at = o.at }
+
+-- what a function promises that writes w behind the place of old; the buffer stays the same one
+pub record Wrote (w : List ℕ) (old new : Text) : Type 0 where
+  pub text : new ≡ with_out old (written w (standing old.at old.out.now))
 
 -- ---- what is written
 
@@ -39,10 +46,9 @@ decimal_in (suc k) n = cond (ltb n 10) (digit_of n ∷ []) (decimal_in k (n / 10
 abbrev pub decimal : ℕ → List ℕ
 decimal n = decimal_in 20 n
 
--- a flag
+-- a flag: 1 where it is set, else 0
 abbrev pub flag_number : Bool → ℕ
-flag_number true = 1
-flag_number false = 0
+flag_number b = from_bool b
 
 -- a number after a space
 abbrev pub field_text : ℕ → List ℕ
@@ -50,17 +56,19 @@ field_text n = 32 ∷ decimal n
 
 -- numbers, each after a space
 unfoldable pub fields_text : List ℕ → List ℕ
-fields_text [] = []
-fields_text (n ∷ l) = field_text n ++ fields_text l
+fields_text l = flat_map field_text l
 
 -- a lower-case hex digit
 abbrev pub hex_digit : ℕ → ℕ
 hex_digit d = cond (ltb d 10) (48 + d) (87 + d)
 
--- two hex digits a byte, nothing between
+-- two hex digits a byte
+abbrev pub hex_pair : ℕ → List ℕ
+hex_pair b = hex_digit (b / 16) ∷ hex_digit (b % 16) ∷ []
+
+-- nothing between
 unfoldable pub hex_text : List ℕ → List ℕ
-hex_text [] = []
-hex_text (b ∷ l) = hex_digit (b / 16) ∷ hex_digit (b % 16) ∷ hex_text l
+hex_text l = flat_map hex_pair l
 
 -- BYTES: no bytes at all is `-`
 abbrev pub bytes_text : List ℕ → List ℕ
@@ -77,9 +85,8 @@ newline = 10 ∷ []
 abbrev pub sum_step : ℕ → ℕ → ℕ
 sum_step h b = (h * 256 + b) % 1000000007
 
-unfoldable pub sum_from : ℕ → List ℕ → ℕ
-sum_from h [] = h
-sum_from h (b ∷ l) = sum_from (sum_step h b) l
+abbrev pub sum_from : ℕ → List ℕ → ℕ
+sum_from h l = fold sum_step h l
 
 -- h = 1; for each byte h = (h * 256 + byte) mod 1000000007
 abbrev pub sum_of : List ℕ → ℕ

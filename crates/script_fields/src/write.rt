@@ -1,93 +1,76 @@
-// The fields of an answer, written behind a place of a lent buffer: each function answers the next place.
+// The fields of an answer, written behind a place of a lent buffer.
 // What the buffer has no room for is left out, byte by byte.
 ghost use Rattle.std.specs.Prelude.{◌≡◌, [], ◌∷◌, ◌<◌};
-ghost use Rattle.script_fields.specs.Write.{Wrote, digit_of, decimal_in, decimal, flag_number, field_text, fields_text, hex_digit, hex_text, bytes_text, sum_of};
+ghost use Rattle.script_fields.specs.Write.{Wrote, decimal, field_text, fields_text, hex_digit, hex_text, bytes_text, sum_step, sum_from, sum_of};
 
-// A byte, as a number.
-pub fn wide(b: u8) -> u64
-    ensures { (result ≡ b) × (result < 256) }
-{
-    b as u64
+// A lent buffer, and the place behind the last byte that was written.
+#[derive(Drop)]
+pub struct Text<'a> {
+    // The whole buffer, which goes on behind the place.
+    pub out: &'a mut [u8],
+    // Index of the next byte.
+    pub at: usize,
 }
 
-// One byte; where there is no room for it, nothing, and the same place.
-pub fn put(out: &mut [u8], at: usize, b: u8) -> usize
-    ensures { Wrote (b ∷ []) at out.old out.new result }
-{
-    if at < out.len() {
-        out[at] = b;
-        return at + 1;
+impl Text<'_> {
+    // One byte; where there is no room for it, nothing.
+    pub fn put(&mut self, b: u8)
+        ensures { Wrote (b ∷ []) self.old self.new }
+    {
+        if self.at < self.out.len() {
+            self.out[self.at] = b;
+            self.at += 1;
+        }
     }
-    at
-}
 
-// The last decimal digit.
-fn digit(n: u64) -> u8
-    ensures { result ≡ digit_of n }
-{
-    (n % 10) as u8 + 48
-}
-
-// The decimal digits of n, with no leading zeros; at most `most` of them.
-fn decimal(out: &mut [u8], at: usize, n: u64, most: usize) -> usize
-    ensures { Wrote (decimal_in most n) at out.old out.new result }
-{
-    if most == 0 {
-        return at;
+    // A number: decimal digits, no leading zeros, at most 20 of them.
+    pub fn number(&mut self, n: u64)
+        ensures { Wrote (decimal n) self.old self.new }
+    {
+        if n >= 10 {
+            self.number(n / 10);
+        }
+        self.put(b'0' + (n % 10) as u8);
     }
-    if n < 10 {
-        return put(out, at, digit(n));
+
+    // A space and a number.
+    pub fn field(&mut self, n: u64)
+        ensures { Wrote (field_text n) self.old self.new }
+    {
+        self.put(b' ');
+        self.number(n);
     }
-    let next = decimal(out, at, n / 10, most - 1);
-    put(out, next, digit(n))
-}
 
-// A number: decimal digits, no leading zeros, at most 20 of them.
-pub fn number(out: &mut [u8], at: usize, n: u64) -> usize
-    ensures { Wrote (decimal n) at out.old out.new result }
-{
-    decimal(out, at, n, 20)
-}
-
-// A flag, as a number: 1 where it is set, else 0.
-pub fn flag(b: bool) -> u64
-    ensures { result ≡ flag_number b }
-{
-    if b { 1 } else { 0 }
-}
-
-// A space and a number.
-pub fn field(out: &mut [u8], at: usize, n: u64) -> usize
-    ensures { Wrote (field_text n) at out.old out.new result }
-{
-    let next = put(out, at, b' ');
-    number(out, next, n)
-}
-
-// Each number of a list after a space.
-pub fn fields(out: &mut [u8], at: usize, list: &[u64]) -> usize
-    ensures { Wrote (fields_text list.now) at out.old out.new result }
-{
-    let mut next = at;
-    let mut i = 0;
-    while i < list.len() {
-        next = field(out, next, list[i]);
-        i += 1;
+    // Each number of a list after a space.
+    pub fn fields(&mut self, list: &[u64])
+        ensures { Wrote (fields_text list.now) self.old self.new }
+    {
+        for &n in list {
+            self.field(n);
+        }
     }
-    next
-}
 
-// Each byte of a list as a number after a space.
-pub fn byte_fields(out: &mut [u8], at: usize, list: &[u8]) -> usize
-    ensures { Wrote (fields_text list.now) at out.old out.new result }
-{
-    let mut next = at;
-    let mut i = 0;
-    while i < list.len() {
-        next = field(out, next, wide(list[i]));
-        i += 1;
+    // Two hex digits a byte.
+    fn pairs(&mut self, list: &[u8])
+        ensures { Wrote (hex_text list.now) self.old self.new }
+    {
+        for &b in list {
+            self.put(hex(b / 16));
+            self.put(hex(b % 16));
+        }
     }
-    next
+
+    // BYTES after a space: two lower-case hex digits a byte, or `-` for none.
+    pub fn bytes(&mut self, list: &[u8])
+        ensures { Wrote (32 ∷ bytes_text list.now) self.old self.new }
+    {
+        self.put(b' ');
+        if list.is_empty() {
+            self.put(b'-');
+        } else {
+            self.pairs(list);
+        }
+    }
 }
 
 // A hex digit.
@@ -95,47 +78,28 @@ fn hex(d: u8) -> u8
     requires { d < 16 }
     ensures { result ≡ hex_digit d }
 {
-    if d < 10 {
-        return d + 48;
-    }
-    d + 87
+    if d < 10 { b'0' + d } else { b'a' - 10 + d }
 }
 
-// Two hex digits a byte.
-fn pairs(out: &mut [u8], at: usize, list: &[u8]) -> usize
-    ensures { Wrote (hex_text list.now) at out.old out.new result }
+// The sum with one number more: h = (h * 256 + n) mod 1000000007.
+#[inline]
+pub fn sum_step(h: u32, n: u32) -> u32
+    ensures { result ≡ sum_step h n }
 {
-    let mut next = at;
-    let mut i = 0;
-    while i < list.len() {
-        let b = list[i];
-        next = put(out, next, hex(b / 16));
-        next = put(out, next, hex(b % 16));
-        i += 1;
-    }
-    next
+    ((u64::from(h) * 256 + u64::from(n)) % 1000000007) as u32
 }
 
-// BYTES after a space: two lower-case hex digits a byte, or `-` for none.
-pub fn bytes(out: &mut [u8], at: usize, list: &[u8]) -> usize
-    ensures { Wrote (32 ∷ bytes_text list.now) at out.old out.new result }
+// The sum with each byte of a list mixed in, in order.
+#[inline]
+pub fn sum_from(h: u32, list: &[u8]) -> u32
+    ensures { result ≡ sum_from h list.now }
 {
-    let next = put(out, at, b' ');
-    if list.len() == 0 {
-        return put(out, next, b'-');
-    }
-    pairs(out, next, list)
+    list.iter().fold(h, |h, &b| sum_step(h, u32::from(b)))
 }
 
-// The checksum: h = (h * 256 + byte) mod 1000000007 over all bytes, from 1 on.
+// The checksum: the sum over all bytes, from 1 on.
 pub fn sum(list: &[u8]) -> u64
     ensures { result ≡ sum_of list.now }
 {
-    let mut h: u64 = 1;
-    let mut i = 0;
-    while i < list.len() {
-        h = (h * 256 + wide(list[i])) % 1000000007;
-        i += 1;
-    }
-    h
+    u64::from(sum_from(1, list))
 }

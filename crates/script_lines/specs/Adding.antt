@@ -1,86 +1,61 @@
 -- The line that adds a balance: A, with its set-up data. From docs/SCRIPTS.md, "Calls", with the limits of "Fields".
-use Rattle.std.specs.Prelude.{◌≡◌, ℕ, Bool, List, [], ◌∷◌, get_or}
+use Rattle.std.specs.Prelude.{ℕ, Bool, Option, Some, is_some, unwrap_or, List, [], ◌∷◌, slice_index}
+use Rattle.std.specs.Option.{option_map_or}
 use Rattle.master.specs.declared.add.Addition.{Addition}
-use Rattle.script_fields.specs.declared.read.Cursor.{Cursor}
-use Rattle.script_lines.specs.declared.AddHead.{AddHead}
-use Rattle.script_lines.specs.declared.AddTail.{AddTail}
 use Rattle.script_lines.specs.declared.Call.{Call}
 use Rattle.script_lines.specs.declared.Call.TheVariants.{Add}
-use Rattle.script_fields.specs.Read.{setup_at, setup_bytes, front}
-use Rattle.script_lines.specs.Fields.{behind, Values, numbers_at, if_ends, flagged}
+use Rattle.script_fields.specs.Read.{◌>>=◌, Field, setup_at, setup_bytes}
+use Rattle.script_lines.specs.Fields.{numbers_at, flagged}
 
 -- ---- A addr ident sync freeze groups failsafe user config in out room
 
-abbrev pub add_fields : List ℕ → Cursor → Values
-add_fields s c = numbers_at (255 ∷ 65535 ∷ 1 ∷ 1 ∷ 255 ∷ 1 ∷ []) s c
+abbrev pub add_fields : List ℕ → ℕ → Option (Field (List ℕ))
+add_fields s at = numbers_at (255 ∷ 65535 ∷ 1 ∷ 1 ∷ 255 ∷ 1 ∷ []) s at
 
-unfoldable pub stem_at : List ℕ → Cursor → AddHead
-stem_at s c =
+abbrev pub length_fields : List ℕ → ℕ → Option (Field (List ℕ))
+length_fields s at = numbers_at (65535 ∷ 65535 ∷ 65535 ∷ []) s at
+
+-- what is added, by the numbers before the set-up data and by the lengths behind it; user and config say whether there is set-up data
+abbrev pub addition_of : List ℕ → Bool → Bool → List ℕ → Addition
+addition_of v user config lengths =
     record {
-      address = get_or (add_fields s c).values 0 0;
-      ident = get_or (add_fields s c).values 1 0;
-      sync = flagged (get_or (add_fields s c).values 2 0);
-      freeze = flagged (get_or (add_fields s c).values 3 0);
-      groups = get_or (add_fields s c).values 4 0;
-      fail_safe = flagged (get_or (add_fields s c).values 5 0);
-      next = (add_fields s c).next;
-    }
-
-abbrev pub length_fields : List ℕ → Cursor → Values
-length_fields s c = numbers_at (65535 ∷ 65535 ∷ 65535 ∷ []) s c
-
-unfoldable pub lengths_at : List ℕ → Cursor → AddTail
-lengths_at s c =
-    record {
-      inputs = get_or (length_fields s c).values 0 0;
-      outputs = get_or (length_fields s c).values 1 0;
-      room = get_or (length_fields s c).values 2 0;
-      next = (length_fields s c).next;
-    }
-
--- where user parameters, configuration and lengths stand
-abbrev pub user_at : List ℕ → Cursor
-user_at s = (stem_at s behind).next
-
-abbrev pub config_at : List ℕ → Cursor
-config_at s = (setup_at s (user_at s)).next
-
-abbrev pub add_lengths : List ℕ → AddTail
-add_lengths s = lengths_at s (setup_at s (config_at s)).next
-
--- what is added; user and config say whether there is set-up data
-unfoldable pub addition_of : AddHead → Bool → Bool → AddTail → Addition
-addition_of t user config l =
-    record {
-      address = t.address;
+      address = slice_index v 0;
       options =
           record {
-            ident_number = t.ident;
+            ident_number = slice_index v 1;
             max_tsdr = 0;
-            groups = t.groups;
-            sync_mode = t.sync;
-            freeze_mode = t.freeze;
-            fail_safe = t.fail_safe;
+            groups = slice_index v 4;
+            sync_mode = flagged (slice_index v 2);
+            freeze_mode = flagged (slice_index v 3);
+            fail_safe = flagged (slice_index v 5);
             has_user_parameters = user;
             user_parameters = 0;
             has_config = config;
             config = 0;
           };
-      input_len = l.inputs;
-      output_len = l.outputs;
-      room = l.room;
+      input_len = slice_index lengths 0;
+      output_len = slice_index lengths 1;
+      room = slice_index lengths 2;
     }
 
-unfoldable pub add_call : List ℕ → Call
-add_call s =
-    if_ends s (add_lengths s).next
-    (Add
-    (addition_of (stem_at s behind) (setup_at s (user_at s)).present (setup_at s (config_at s)).present (add_lengths s))
-    (setup_at s (user_at s)).len
-    (setup_at s (config_at s)).len)
+unfoldable pub add_call : List ℕ → ℕ → Option (Field Call)
+add_call s at = do
+  f ← add_fields s at
+  user ← setup_at s f.next
+  config ← setup_at s user.next
+  lengths ← length_fields s config.next
+  Some (record {
+    value =
+        Add (addition_of f.value (is_some user.value) (is_some config.value) lengths.value)
+        (unwrap_or user.value 0) (unwrap_or config.value 0);
+    next = lengths.next;
+  })
 
--- what an add leaves in the two arrays, beside the call
-pub record AddRead (s a b a' b' : List ℕ) (r : Call) : Type 0 where
-  pub answer : r ≡ add_call s
-  pub first : a' ≡ front (setup_bytes s (user_at s)) a
-  pub second : b' ≡ front (setup_bytes s (config_at s)) b
+-- the user parameters of an A, and its configuration
+unfoldable pub user_bytes : List ℕ → ℕ → List ℕ
+user_bytes s at = option_map_or (λ f. setup_bytes s f.next) (add_fields s at) []
+
+unfoldable pub config_bytes : List ℕ → ℕ → List ℕ
+config_bytes s at = option_map_or (λ user. setup_bytes s user.next) (do
+  f ← add_fields s at
+  setup_at s f.next) []

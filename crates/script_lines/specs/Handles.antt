@@ -1,42 +1,45 @@
 -- The lines that name a handle: X, Q, W, I, O and G. From docs/SCRIPTS.md, "Calls", with the limits of "Fields".
-use Rattle.std.specs.Prelude.{◌≡◌, ℕ, List, [], ◌∷◌, get_or}
+use Rattle.std.specs.Prelude.{ℕ, Option, List, [], ◌∷◌, slice_index}
+use Rattle.std.specs.Option.{option_map_or}
 use Rattle.peripheral_set.specs.declared.PeripheralHandle.{PeripheralHandle}
-use Rattle.script_lines.specs.declared.Held.{Held}
 use Rattle.script_lines.specs.declared.Call.{Call}
 use Rattle.script_lines.specs.declared.Call.TheVariants.{Reset, Wish, Write, Inputs, Outputs, Diagnosis}
-use Rattle.script_fields.specs.Read.{number_at, bytes_at, pairs_at, front}
-use Rattle.script_lines.specs.Fields.{behind, Values, numbers_at, if_ends}
+use Rattle.script_fields.specs.Read.{◌>>=◌, Field, number_at, bytes_at, pairs_at}
+use Rattle.script_lines.specs.Fields.{numbers_at, read_as}
 
 -- ---- X slot addr new, Q slot addr, W slot addr BYTES, I, O and G slot addr
 
-abbrev pub handle_fields : List ℕ → Values
-handle_fields s = numbers_at (255 ∷ 255 ∷ []) s behind
+abbrev pub handle_fields : List ℕ → ℕ → Option (Field (List ℕ))
+handle_fields s at = numbers_at (255 ∷ 255 ∷ []) s at
 
-abbrev pub handle_read : List ℕ → PeripheralHandle
-handle_read s = record { slot = get_or (handle_fields s).values 0 0; address = get_or (handle_fields s).values 1 0 }
+abbrev pub handle_of : List ℕ → PeripheralHandle
+handle_of v = record { slot = slice_index v 0; address = slice_index v 1 }
 
-abbrev pub held_of : List ℕ → Held
-held_of s = record { handle = handle_read s; next = (handle_fields s).next }
+unfoldable pub handle_at : List ℕ → ℕ → Option (Field PeripheralHandle)
+handle_at s at = read_as handle_of (handle_fields s at)
 
-unfoldable pub reset_call : List ℕ → Call
-reset_call s =
-    if_ends s (number_at 255 s (handle_fields s).next).next (Reset (handle_read s) (number_at 255 s (handle_fields s).next).value)
+abbrev pub reset_call : List ℕ → ℕ → Option (Field Call)
+reset_call s at = do
+  h ← handle_at s at
+  read_as (Reset h.value) (number_at 255 s h.next)
 
-unfoldable pub write_call : List ℕ → Call
-write_call s = if_ends s (bytes_at s (handle_fields s).next).next (Write (handle_read s) (bytes_at s (handle_fields s).next).len)
+abbrev pub write_call : List ℕ → ℕ → Option (Field Call)
+write_call s at = do
+  h ← handle_at s at
+  read_as (Write h.value) (bytes_at s h.next)
 
-pub record WriteRead (s a a' : List ℕ) (r : Call) : Type 0 where
-  pub answer : r ≡ write_call s
-  pub first : a' ≡ front (pairs_at s (handle_fields s).next) a
+-- the bytes of a W
+abbrev pub write_bytes : List ℕ → ℕ → List ℕ
+write_bytes s at = option_map_or (λ h. pairs_at s h.next) (handle_at s at) []
 
-unfoldable pub wish_call : List ℕ → Call
-wish_call s = if_ends s (handle_fields s).next (Wish (handle_read s))
+abbrev pub wish_call : List ℕ → ℕ → Option (Field Call)
+wish_call s at = read_as Wish (handle_at s at)
 
-unfoldable pub inputs_call : List ℕ → Call
-inputs_call s = if_ends s (handle_fields s).next (Inputs (handle_read s))
+abbrev pub inputs_call : List ℕ → ℕ → Option (Field Call)
+inputs_call s at = read_as Inputs (handle_at s at)
 
-unfoldable pub outputs_call : List ℕ → Call
-outputs_call s = if_ends s (handle_fields s).next (Outputs (handle_read s))
+abbrev pub outputs_call : List ℕ → ℕ → Option (Field Call)
+outputs_call s at = read_as Outputs (handle_at s at)
 
-unfoldable pub diagnosis_call : List ℕ → Call
-diagnosis_call s = if_ends s (handle_fields s).next (Diagnosis (handle_read s))
+abbrev pub diagnosis_call : List ℕ → ℕ → Option (Field Call)
+diagnosis_call s at = read_as Diagnosis (handle_at s at)

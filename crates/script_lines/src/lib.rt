@@ -2,22 +2,21 @@
 #![tactic(auto)]
 
 ghost use Rattle.std.specs.Prelude.{◌≡◌};
-ghost use Rattle.script_lines.specs.Fields.{if_ends};
-ghost use Rattle.script_lines.specs.Making.{new_call, lend_call, pools_call, payload_call};
-ghost use Rattle.script_lines.specs.Adding.{stem_at, lengths_at, addition_of, AddRead};
-ghost use Rattle.script_lines.specs.Running.{state_call, turn_call, is_bare, reply_read, ReplyRead};
-ghost use Rattle.script_lines.specs.Handles.{held_of, reset_call, WriteRead, wish_call, inputs_call, outputs_call, diagnosis_call};
-ghost use Rattle.script_lines.specs.Call.{alone_call, CallRead};
+ghost use Rattle.script_fields.specs.Read.{with_place, front};
+ghost use Rattle.script_lines.specs.Making.{parameters_at, lent_at};
+ghost use Rattle.script_lines.specs.Adding.{add_call, user_bytes, config_bytes};
+ghost use Rattle.script_lines.specs.Running.{is_bare, telegram_read, reply_call, reply_bytes};
+ghost use Rattle.script_lines.specs.Handles.{handle_at};
+ghost use Rattle.script_lines.specs.Call.{fields_for, first_for, second_for, CallRead};
 
 use cycle::state::OperatingState;
-use fdl::consts::Sap;
+use fdl::consts::sap_of;
 use fdl::parameters::Parameters;
 use fdl::telegram::Telegram;
 use master::add::Addition;
 use payloads::options::PeripheralOptions;
 use peripheral_set::PeripheralHandle;
-use script_fields::read;
-use script_fields::read::Cursor;
+use script_fields::read::Reader;
 
 // How many bytes of each array a call is lent, and how many entries of the list.
 #[derive(Clone, Copy)]
@@ -39,8 +38,6 @@ pub struct Lent {
 // What a line asks for, by its letter. Bytes stand in the two lent arrays, here is how many.
 #[derive(Clone, Copy)]
 pub enum Call {
-    // No call: the line is answered with `?`, and changes nothing.
-    Unknown,
     // N: creation, with these parameters.
     New(Parameters),
     // L: these lent lengths, for the next call.
@@ -103,414 +100,188 @@ pub const MOST_PAYLOAD: u16 = 300;
 // The most entries of the list array that L lends: all of it.
 pub const MOST_ENTRIES: u16 = 40;
 
-// A call, where the line ends behind its fields.
-fn ending(s: &[u8], c: Cursor, call: Call) -> Call
-    ensures { result ≡ if_ends s.now c call }
+// N: what a unit is created with.
+#[tactic(auto, unfolding(crate::specs::Making::parameters_at))]
+fn parameters(r: &mut Reader) -> Option<Parameters>
+    ensures field { with_place result r.new.at ≡ parameters_at r.old.line.now r.old.at }
+    ensures line { r.new.line ≡ r.old.line }
 {
-    if read::ends(s, c) {
-        return call;
-    }
-    Call::Unknown
+    Some(Parameters {
+        address: r.number(255)? as u8,
+        max_retry_limit: r.number(255)? as u8,
+        slot_time: r.number(4294967295)? as u32,
+        watchdog: r.flag()?,
+        watchdog_first: r.number(255)? as u8,
+        watchdog_second: r.number(255)? as u8,
+        min_tsdr_bits: r.number(255)? as u8,
+        setup_pool: r.number(65535)? as u16,
+        input_pool: r.number(65535)? as u16,
+        output_pool: r.number(65535)? as u16,
+        diag_pool: r.number(65535)? as u16,
+    })
 }
 
-// The letter alone.
-fn alone(s: &[u8], call: Call) -> Call
-    ensures { result ≡ alone_call s.now call }
+// L: the lent lengths.
+#[tactic(auto, unfolding(crate::specs::Making::lent_at))]
+fn lengths(r: &mut Reader) -> Option<Lent>
+    ensures field { with_place result r.new.at ≡ lent_at r.old.line.now r.old.at }
+    ensures line { r.new.line ≡ r.old.line }
 {
-    let start = Cursor { at: 1, good: true };
-    ending(s, start, call)
+    Some(Lent {
+        setup: r.number(u64::from(MOST_LENT))? as u16,
+        inputs: r.number(u64::from(MOST_LENT))? as u16,
+        outputs: r.number(u64::from(MOST_LENT))? as u16,
+        diags: r.number(u64::from(MOST_LENT))? as u16,
+        payload: r.number(u64::from(MOST_PAYLOAD))? as u16,
+        list: r.number(u64::from(MOST_ENTRIES))? as u16,
+    })
 }
 
-fn new(s: &[u8]) -> Call
-    ensures { result ≡ new_call s.now }
+// X, Q, W, I, O and G: slot and address at issue.
+#[tactic(auto, unfolding(crate::specs::Handles::handle_at))]
+fn handle(r: &mut Reader) -> Option<PeripheralHandle>
+    ensures field { with_place result r.new.at ≡ handle_at r.old.line.now r.old.at }
+    ensures line { r.new.line ≡ r.old.line }
 {
-    let start = Cursor { at: 1, good: true };
-    let own = read::small(s, start, 255);
-    let retry = read::small(s, own.next, 255);
-    let slot = read::word(s, retry.next, 4294967295);
-    let watchdog = read::flag(s, slot.next);
-    let first = read::small(s, watchdog.next, 255);
-    let second = read::small(s, first.next, 255);
-    let tsdr = read::small(s, second.next, 255);
-    let setup = read::wide_number(s, tsdr.next, 65535);
-    let inputs = read::wide_number(s, setup.next, 65535);
-    let outputs = read::wide_number(s, inputs.next, 65535);
-    let diags = read::wide_number(s, outputs.next, 65535);
-    ending(
-        s,
-        diags.next,
-        Call::New(Parameters {
-            slot_time: slot.value,
-            setup_pool: setup.value,
-            input_pool: inputs.value,
-            output_pool: outputs.value,
-            diag_pool: diags.value,
-            address: own.value,
-            max_retry_limit: retry.value,
-            watchdog: watchdog.value,
-            watchdog_first: first.value,
-            watchdog_second: second.value,
-            min_tsdr_bits: tsdr.value,
-        }),
-    )
+    Some(PeripheralHandle {
+        slot: r.number(255)? as u8,
+        address: r.number(255)? as u8,
+    })
 }
 
-fn lend(s: &[u8]) -> Call
-    ensures { result ≡ lend_call s.now }
+// A: what is added; the user parameters go to the front of `a`, the configuration to that of `b`.
+#[tactic(auto, unfolding(crate::specs::Adding::add_call, crate::specs::Adding::user_bytes, crate::specs::Adding::config_bytes))]
+fn add(r: &mut Reader, a: &mut [u8; 255], b: &mut [u8; 255]) -> Option<Call>
+    ensures field { with_place result r.new.at ≡ add_call r.old.line.now r.old.at }
+    ensures first { a.new ≡ front (user_bytes r.old.line.now r.old.at) a.old }
+    ensures second { b.new ≡ front (config_bytes r.old.line.now r.old.at) b.old }
+    ensures line { r.new.line ≡ r.old.line }
 {
-    let start = Cursor { at: 1, good: true };
-    let setup = read::wide_number(s, start, MOST_LENT);
-    let inputs = read::wide_number(s, setup.next, MOST_LENT);
-    let outputs = read::wide_number(s, inputs.next, MOST_LENT);
-    let diags = read::wide_number(s, outputs.next, MOST_LENT);
-    let payload = read::wide_number(s, diags.next, MOST_PAYLOAD);
-    let list = read::wide_number(s, payload.next, MOST_ENTRIES);
-    ending(
-        s,
-        list.next,
-        Call::Lend(Lent {
-            setup: setup.value,
-            inputs: inputs.value,
-            outputs: outputs.value,
-            diags: diags.value,
-            payload: payload.value,
-            list: list.value,
-        }),
-    )
-}
-
-fn fill_pools(s: &[u8]) -> Call
-    ensures { result ≡ pools_call s.now }
-{
-    let start = Cursor { at: 1, good: true };
-    let b = read::small(s, start, 255);
-    ending(s, b.next, Call::FillPools(b.value))
-}
-
-fn fill_payload(s: &[u8]) -> Call
-    ensures { result ≡ payload_call s.now }
-{
-    let start = Cursor { at: 1, good: true };
-    let b = read::small(s, start, 255);
-    ending(s, b.next, Call::FillPayload(b.value))
-}
-
-// What an add says before its set-up data.
-#[derive(Clone, Copy)]
-struct AddHead {
-    address: u8,
-    ident: u16,
-    sync: bool,
-    freeze: bool,
-    groups: u8,
-    fail_safe: bool,
-    next: Cursor,
-}
-
-// The lengths behind it.
-#[derive(Clone, Copy)]
-struct AddTail {
-    inputs: usize,
-    outputs: usize,
-    room: usize,
-    next: Cursor,
-}
-
-fn stem(s: &[u8], start: Cursor) -> AddHead
-    ensures { result ≡ stem_at s.now start }
-{
-    let address = read::small(s, start, 255);
-    let ident = read::wide_number(s, address.next, 65535);
-    let sync = read::flag(s, ident.next);
-    let freeze = read::flag(s, sync.next);
-    let groups = read::small(s, freeze.next, 255);
-    let fail_safe = read::flag(s, groups.next);
-    let next = fail_safe.next;
-    AddHead {
-        address: address.value,
-        ident: ident.value,
-        sync: sync.value,
-        freeze: freeze.value,
-        groups: groups.value,
-        fail_safe: fail_safe.value,
-        next: next,
-    }
-}
-
-fn lengths(s: &[u8], start: Cursor) -> AddTail
-    ensures { result ≡ lengths_at s.now start }
-{
-    let inputs = read::wide_number(s, start, 65535);
-    let outputs = read::wide_number(s, inputs.next, 65535);
-    let room = read::wide_number(s, outputs.next, 65535);
-    let next = room.next;
-    AddTail {
-        inputs: parts::widen16(inputs.value),
-        outputs: parts::widen16(outputs.value),
-        room: parts::widen16(room.value),
-        next: next,
-    }
-}
-
-fn addition(t: AddHead, user: bool, config: bool, l: AddTail) -> Addition
-    ensures { result ≡ addition_of t user config l }
-{
+    let address = r.number(255)? as u8;
+    let ident_number = r.number(65535)? as u16;
+    let sync_mode = r.flag()?;
+    let freeze_mode = r.flag()?;
+    let groups = r.number(255)? as u8;
+    let fail_safe = r.flag()?;
+    let user = r.setup(a)?;
+    let config = r.setup(b)?;
     let options = PeripheralOptions {
-        ident_number: t.ident,
+        ident_number,
         max_tsdr: 0,
-        groups: t.groups,
-        sync_mode: t.sync,
-        freeze_mode: t.freeze,
-        fail_safe: t.fail_safe,
-        has_user_parameters: user,
+        groups,
+        sync_mode,
+        freeze_mode,
+        fail_safe,
+        has_user_parameters: user.is_some(),
         user_parameters: 0,
-        has_config: config,
+        has_config: config.is_some(),
         config: 0,
     };
-    Addition {
-        address: t.address,
-        options: options,
-        input_len: l.inputs,
-        output_len: l.outputs,
-        room: l.room,
-    }
-}
-
-fn add(s: &[u8], a: &mut [u8; 255], b: &mut [u8; 255]) -> Call
-    ensures { AddRead s.now a.old b.old a.new b.new result }
-{
-    let start = Cursor { at: 1, good: true };
-    let t = stem(s, start);
-    let user = read::setup(s, t.next, a);
-    let config = read::setup(s, user.next, b);
-    let l = lengths(s, config.next);
-    let addition = addition(t, user.present, config.present, l);
-    ending(
-        s,
-        l.next,
-        Call::Add {
-            addition: addition,
-            user: user.len,
-            config: config.len,
-        },
-    )
-}
-
-fn state(s: &[u8]) -> Call
-    ensures { result ≡ state_call s.now }
-{
-    let start = Cursor { at: 1, good: true };
-    let n = read::small(s, start, 2);
-    ending(s, n.next, Call::State(OperatingState::of(n.value)))
-}
-
-fn turn(s: &[u8]) -> Call
-    ensures { result ≡ turn_call s.now }
-{
-    let start = Cursor { at: 1, good: true };
-    let time = read::number(s, start, 18446744073709551615);
-    let high = read::flag(s, time.next);
-    ending(
-        s,
-        high.next,
-        Call::Turn {
-            time: time.value,
-            high_prio_only: high.value,
-        },
-    )
+    let addition = Addition {
+        address,
+        options,
+        input_len: r.number(65535)? as usize,
+        output_len: r.number(65535)? as usize,
+        room: r.number(65535)? as usize,
+    };
+    Some(Call::Add {
+        addition,
+        user: user.unwrap_or(0),
+        config: config.unwrap_or(0),
+    })
 }
 
 // A short confirmation or a token has no fields of its own: `255 255 0 -`.
 fn is_bare(dsap: u8, ssap: u8, status: u8, len: usize) -> bool
     ensures { result ≡ is_bare dsap ssap status len }
 {
-    if dsap != 255 {
-        return false;
-    }
-    if ssap != 255 {
-        return false;
-    }
-    if status != 0 {
-        return false;
-    }
-    len == 0
+    dsap == 255 && ssap == 255 && status == 0 && len == 0
 }
 
-fn replied(address: u8, telegram: Telegram, len: usize) -> Call
-    ensures { result ≡ Call.Reply address telegram len }
-{
-    Call::Reply {
-        address: address,
-        telegram: telegram,
-        len: len,
-    }
-}
-
-fn reply(s: &[u8], a: &mut [u8; 255]) -> Call
-    ensures { ReplyRead s.now a.old a.new result }
-{
-    let start = Cursor { at: 1, good: true };
-    let address = read::small(s, start, 255);
-    let kind = read::small(s, address.next, 3);
-    let dsap = read::small(s, kind.next, 255);
-    let ssap = read::small(s, dsap.next, 255);
-    let status = read::small(s, ssap.next, 255);
-    let payload = read::bytes(s, status.next, a);
-    ending(
-        s,
-        payload.next,
-        reply_of(
-            address.value,
-            kind.value,
-            dsap.value,
-            ssap.value,
-            status.value,
-            payload.len,
-        ),
-    )
-}
-
-fn reply_of(address: u8, kind: u8, dsap: u8, ssap: u8, status: u8, len: usize) -> Call
-    ensures { result ≡ reply_read address kind dsap ssap status len }
+// What came, by its kind and its fields.
+#[tactic(auto, unfolding(crate::specs::Running::telegram_read))]
+fn telegram_of(kind: u64, dsap: u8, ssap: u8, status: u8, len: usize) -> Option<Telegram>
+    ensures { result ≡ telegram_read kind dsap ssap status len }
 {
     let bare = is_bare(dsap, ssap, status, len);
     match kind {
-        0 => {
-            if bare {
-                return replied(address, Telegram::ShortConfirmation, len);
-            }
-            Call::Unknown
-        }
-        1 => replied(
-            address,
-            Telegram::Data {
-                dsap: Sap::of(dsap),
-                ssap: Sap::of(ssap),
-                status: status,
-            },
-            len,
-        ),
-        2 => {
-            if bare {
-                return replied(address, Telegram::Token, len);
-            }
-            Call::Unknown
-        }
-        _ => replied(address, Telegram::Request, len),
+        0 => bare.then_some(Telegram::ShortConfirmation),
+        1 => Some(Telegram::Data {
+            dsap: sap_of(dsap),
+            ssap: sap_of(ssap),
+            status,
+        }),
+        2 => bare.then_some(Telegram::Token),
+        _ => Some(Telegram::Request),
     }
 }
 
-// A handle, and where the line goes on.
-#[derive(Clone, Copy)]
-struct Held {
-    handle: PeripheralHandle,
-    next: Cursor,
+// R: what came and from whom; the payload goes to the front of `a`.
+#[tactic(auto, unfolding(crate::specs::Running::reply_call, crate::specs::Running::reply_bytes))]
+fn reply(r: &mut Reader, a: &mut [u8; 255]) -> Option<Call>
+    ensures field { with_place result r.new.at ≡ reply_call r.old.line.now r.old.at }
+    ensures first { a.new ≡ front (reply_bytes r.old.line.now r.old.at) a.old }
+    ensures line { r.new.line ≡ r.old.line }
+{
+    let address = r.number(255)? as u8;
+    let kind = r.number(3)?;
+    let dsap = r.number(255)? as u8;
+    let ssap = r.number(255)? as u8;
+    let status = r.number(255)? as u8;
+    let len = r.bytes(a)?;
+    Some(Call::Reply {
+        address,
+        telegram: telegram_of(kind, dsap, ssap, status, len)?,
+        len,
+    })
 }
 
-fn handle(s: &[u8]) -> Held
-    ensures { result ≡ held_of s.now }
+// The call of a letter, read up to the end of its fields.
+#[tactic(auto, unfolding(crate::specs::Call::fields_for, crate::specs::Call::first_for, crate::specs::Call::second_for))]
+fn fields(letter: u8, r: &mut Reader, a: &mut [u8; 255], b: &mut [u8; 255]) -> Option<Call>
+    ensures field { with_place result r.new.at ≡ fields_for letter r.old.line.now r.old.at }
+    ensures first { a.new ≡ front (first_for letter r.old.line.now r.old.at) a.old }
+    ensures second { b.new ≡ front (second_for letter r.old.line.now r.old.at) b.old }
+    ensures line { r.new.line ≡ r.old.line }
 {
-    let start = Cursor { at: 1, good: true };
-    let slot = read::small(s, start, 255);
-    let address = read::small(s, slot.next, 255);
-    let next = address.next;
-    let handle = PeripheralHandle {
-        slot: slot.value,
-        address: address.value,
-    };
-    Held {
-        handle: handle,
-        next: next,
+    match letter {
+        b'N' => Some(Call::New(parameters(r)?)),
+        b'L' => Some(Call::Lend(lengths(r)?)),
+        b'P' => Some(Call::FillPools(r.number(255)? as u8)),
+        b'F' => Some(Call::FillPayload(r.number(255)? as u8)),
+        b'A' => add(r, a, b),
+        b'S' => Some(Call::State(OperatingState::from(r.number(2)? as u8))),
+        b'T' => Some(Call::Turn {
+            time: r.number(u64::MAX)?,
+            high_prio_only: r.flag()?,
+        }),
+        b'R' => reply(r, a),
+        b'X' => Some(Call::Reset {
+            handle: handle(r)?,
+            address: r.number(255)? as u8,
+        }),
+        b'Q' => Some(Call::Wish(handle(r)?)),
+        b'W' => Some(Call::Write {
+            handle: handle(r)?,
+            len: r.bytes(a)?,
+        }),
+        b'I' => Some(Call::Inputs(handle(r)?)),
+        b'O' => Some(Call::Outputs(handle(r)?)),
+        b'G' => Some(Call::Diagnosis(handle(r)?)),
+        b'H' => Some(Call::Listing),
+        b'D' => Some(Call::Dump),
+        b'B' => Some(Call::Payload),
+        _ => None,
     }
 }
 
-fn reset(s: &[u8]) -> Call
-    ensures { result ≡ reset_call s.now }
-{
-    let h = handle(s);
-    let address = read::small(s, h.next, 255);
-    let handle = h.handle;
-    ending(
-        s,
-        address.next,
-        Call::Reset {
-            handle: handle,
-            address: address.value,
-        },
-    )
-}
-
-fn write(s: &[u8], a: &mut [u8; 255]) -> Call
-    ensures { WriteRead s.now a.old a.new result }
-{
-    let h = handle(s);
-    let bytes = read::bytes(s, h.next, a);
-    let handle = h.handle;
-    ending(
-        s,
-        bytes.next,
-        Call::Write {
-            handle: handle,
-            len: bytes.len,
-        },
-    )
-}
-
-fn wish(s: &[u8]) -> Call
-    ensures { result ≡ wish_call s.now }
-{
-    let h = handle(s);
-    let handle = h.handle;
-    ending(s, h.next, Call::Wish(handle))
-}
-
-fn inputs(s: &[u8]) -> Call
-    ensures { result ≡ inputs_call s.now }
-{
-    let h = handle(s);
-    let handle = h.handle;
-    ending(s, h.next, Call::Inputs(handle))
-}
-
-fn outputs(s: &[u8]) -> Call
-    ensures { result ≡ outputs_call s.now }
-{
-    let h = handle(s);
-    let handle = h.handle;
-    ending(s, h.next, Call::Outputs(handle))
-}
-
-fn diagnosis(s: &[u8]) -> Call
-    ensures { result ≡ diagnosis_call s.now }
-{
-    let h = handle(s);
-    let handle = h.handle;
-    ending(s, h.next, Call::Diagnosis(handle))
-}
-
-// What a line, without its newline, asks for. Bytes go to the front of `a`; in an add the configuration goes to that of `b`.
-pub fn parse(s: &[u8], a: &mut [u8; 255], b: &mut [u8; 255]) -> Call
+// What a line, without its newline, asks for, if it is a call. Bytes go to the front of `a`; in an add the configuration goes to that of `b`.
+#[tactic(auto, unfolding(crate::specs::Call::fields_for, crate::specs::Call::first_for, crate::specs::Call::second_for))]
+pub fn parse(s: &[u8], a: &mut [u8; 255], b: &mut [u8; 255]) -> Option<Call>
     ensures { CallRead s.now a.old b.old a.new b.new result }
 {
-    let letter = parts::byte_at(s, 0);
-    match letter {
-        b'N' => new(s),
-        b'L' => lend(s),
-        b'P' => fill_pools(s),
-        b'F' => fill_payload(s),
-        b'A' => add(s, a, b),
-        b'S' => state(s),
-        b'T' => turn(s),
-        b'R' => reply(s, a),
-        b'X' => reset(s),
-        b'Q' => wish(s),
-        b'W' => write(s, a),
-        b'I' => inputs(s),
-        b'O' => outputs(s),
-        b'G' => diagnosis(s),
-        b'H' => alone(s, Call::Listing),
-        b'D' => alone(s, Call::Dump),
-        b'B' => alone(s, Call::Payload),
-        _ => Call::Unknown,
-    }
+    let letter = *s.first()?;
+    let mut r = Reader { line: s, at: 1 };
+    let call = fields(letter, &mut r, a, b)?;
+    r.ends().then_some(call)
 }

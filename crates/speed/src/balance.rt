@@ -3,7 +3,6 @@ ghost use Rattle.std.specs.Prelude.{◌≡◌};
 ghost use Rattle.speed.specs.Balance.{unit_parameters, balance_added, silent, balance_says, said_to, said_from, balance_answer};
 
 use answers::turn::Transmission;
-use fdl::consts::Sap;
 use fdl::parameters::Parameters;
 use fdl::telegram::Telegram;
 use master::add::Addition;
@@ -100,8 +99,8 @@ fn told_to(kind: Request, address: u8, slot: u8) -> Answer
     match kind {
         Request::Diagnosis => {
             let telegram = Telegram::Data {
-                dsap: Sap::At(62),
-                ssap: Sap::At(60),
+                dsap: Some(62),
+                ssap: Some(60),
                 status: 8,
             };
             told(address, slot, false, telegram)
@@ -110,8 +109,8 @@ fn told_to(kind: Request, address: u8, slot: u8) -> Answer
         Request::Configuration => told(address, slot, false, Telegram::ShortConfirmation),
         Request::Data => {
             let telegram = Telegram::Data {
-                dsap: Sap::Absent,
-                ssap: Sap::Absent,
+                dsap: None,
+                ssap: None,
                 status: 8,
             };
             told(address, slot, true, telegram)

@@ -25,6 +25,8 @@ use crate::balance::Answer;
 use answers::turn::Transmission;
 use master::unit::DpMaster;
 use peripheral_set::PeripheralHandle;
+use script_fields::read::Reader;
+use script_fields::write::Text;
 use std::io::{self, Read};
 
 // The unit and the sum so far.
@@ -153,7 +155,7 @@ fn images(unit: DpMaster, h: u32, n: u8, inputs: &[u8]) -> u32 {
             slot: slot,
             address: 0,
         };
-        sum = total::bytes(sum, access::images::pi_i(unit, handle, inputs));
+        sum = script_fields::write::sum_from(sum, access::images::pi_i(unit, handle, inputs));
         slot = following(slot);
         left -= 1;
     }
@@ -266,18 +268,22 @@ fn run(all: bool, balances: u8, rounds: u32) -> u32 {
     )
 }
 
-fn line(s: &[u8], out: &mut [u8]) -> usize {
-    let mode = script_fields::read::digits(s, 0, 1);
-    let balances = script_fields::read::small(s, mode.next, 32);
-    let rounds = script_fields::read::word(s, balances.next, 4294967295);
-    if script_fields::read::ends(s, rounds.next) {
-        if 0 < balances.value {
-            let h = run(mode.value == 0, balances.value, rounds.value);
-            let at = script_fields::write::number(out, 0, h as u64);
-            return script_fields::write::put(out, at, b'\n');
-        }
-    }
-    script_answers::bare(out, 0, b'?')
+// What a line asks for: the mode, how many balances, at least one, and how many rounds.
+fn asked(s: &[u8]) -> Option<(u64, u8, u32)> {
+    let mut r = Reader { line: s, at: 0 };
+    let mode = r.digits(1)?;
+    let balances = r.number(32)? as u8;
+    let rounds = r.number(4294967295)? as u32;
+    (r.ends() && balances > 0).then_some((mode, balances, rounds))
+}
+
+fn line(s: &[u8], out: &mut Text) {
+    let Some((mode, balances, rounds)) = asked(s) else {
+        script_answers::bare(out, b'?');
+        return;
+    };
+    out.number(u64::from(run(mode == 0, balances, rounds)));
+    out.put(b'\n');
 }
 
 // The line without its newline.
@@ -309,6 +315,11 @@ fn main(rt: HostRuntime) -> io::Result<()> {
     let mut buf = [0u8; 4096];
     let n = read_full(&mut rt.stdin(), &mut buf)?;
     let mut text = [0u8; 64];
-    let end = line(trimmed(parts::part(&buf, 0, n)), &mut text);
+    let mut out = Text {
+        out: &mut text,
+        at: 0,
+    };
+    line(trimmed(parts::part(&buf, 0, n)), &mut out);
+    let end = out.at;
     rt.write_all(parts::part(&text, 0, end))
 }

@@ -1,16 +1,16 @@
--- `listing` meets its contract: two numbers, the entries, the sum, the newline.
-use mathlib.Core.Path.{◌∙◌}
-use mathlib.Core.List.{[], ◌∷◌}
-use Rattle.script_fields.specs.Write.{newline}
+-- `listing` meets its contract: two numbers, the entries, the sum, the newline. The loop's invariant: the entries gone over are written.
+use Rattle.script_fields.specs.Write.{field_text}
 use Rattle.script_answers.specs.Answer.{listing_text}
-use Rattle.script_fields.proofs.Laws.{then}
+use Rattle.script_fields.proofs.Laws.{wrote_none, then, one_more, all_fields, fields}
 use Rattle.script_answers.proofs.listing.Goals as goal
 
-pub shape_of-out : goal.shape_of-out
-shape_of-out c = c.put.auto.out ∙ c.field-next.auto.out ∙ c.byte_fields-entries.auto.out ∙ c.fields-after.auto.out ∙ c.put-first.auto.out
+pub loop-b-init : goal.loop-b-init
+loop-b-init c = wrote_none
+
+pub loop-b-preserved : goal.loop-b-preserved
+loop-b-preserved c = one_more field_text _ _ c.loop-b-test.true c.loop-b.invariant (rw c.from-in-loop-b.ensures at c.field.ensures)
 
 pub returns : goal.returns
 unfolding listing_text
-returns c = then (0x48 ∷ []) _ _ _ _ c.put-first.ensures
-    (then _ _ _ _ _ c.fields-after.ensures
-    (then _ _ _ _ _ c.byte_fields-entries.ensures (then _ newline _ _ _ (simp c.sum.ensures at c.field-next.ensures) c.put.ensures)))
+returns c = then c.put.ensures (then (fields (cc) c.fields.ensures)
+    (then (all_fields _ _ c.loop-b-test.false c.loop-b.invariant) (then (rw c.sum.ensures at c.field-2.ensures) c.put-2.ensures)))
