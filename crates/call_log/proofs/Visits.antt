@@ -32,7 +32,7 @@ use Rattle.master.proofs.Bits.{bit, or_bit, pow-bit_same, pow-bit_below, pow-bit
 use Rattle.master.proofs.Sweep.{sweep_skip, sweep_visit, sweep_stopped}
 use Rattle.call_log.proofs.Lives.{kind_of}
 
--- a request went to slot t
+-- what the visits leave where request k went to slot t; `Some` and `None` are the code's, `some` and `none` those of the log
 abbrev pub sent_to : ℕ → Request → CodeOption Sent
 sent_to t k = Some (record { slot = t; kind = k })
 
