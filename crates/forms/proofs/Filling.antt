@@ -63,12 +63,6 @@ overlay-length [] old h = refl
 overlay-length (x ∷ new) [] h = absurd (not-suc-le-zero h)
 overlay-length (x ∷ new) (y ∷ old) h = ap suc (overlay-length new old (le_of_suc-le-suc h))
 
-pub take-fits : (i : ℕ) (new : List Entry) (n : ℕ) → length new ≤ n → length (take i new) ≤ n
-take-fits zero new n h = omega arith
-take-fits (suc i) [] n h = h
-take-fits (suc i) (x ∷ new) zero h = absurd (not-suc-le-zero h)
-take-fits (suc i) (x ∷ new) (suc n) h = omega (arith, take-fits i new n (le_of_suc-le-suc h))
-
 -- the rows that are all written over, with the rest of the list behind them
 pub laid : (new old rows : List Entry) (k : ℕ) → k ≡ length new → k ≤ length old → rows ≡ overlay new (take k old) → rows ++ drop k old ≡ overlay new old
 laid new old rows k e h q =
