@@ -1,28 +1,35 @@
 -- `iter` meets its contract. The idea: a list with too little room is refused; else the loop lays the entries over the first rows, one after the other.
 use mathlib.Core.Path.{◌≡◌, refl, sym, ap, ◌∙◌}
-use mathlib.Core.List.{List}
+use mathlib.Core.List.{List, [], ◌∷◌}
 use Prim.Native.Nat.{◌≤◌}
 use native.Mathlib.Numerals.{add-one}
 use native.Mathlib.Omega.{arith}
 use lib.ListN.{length, set, take}
 use lib.Seq.{length-take-le}
-use borrow.Author.Tests.{lt-leb, le-leb, lt-ltb, le-ltb}
+use borrow.Author.Tests.{lt-leb, le-leb, le-ltb}
+use Rattle.refusals.specs.Table.{list_row}
+use Rattle.refusals.proofs.Laws.{told, done_is, passed_up}
 use Rattle.peripheral_set.specs.declared.Entry.{Entry}
 use Rattle.peripheral_set.specs.Marks.{slots}
 use Rattle.access.specs.Lookup.{entry_at}
 use Rattle.forms.specs.Listing.{shown, overlay}
-use Rattle.forms.proofs.Filling.{as_many, shown-fits, shown-at, fills, laid, take_all}
+use Rattle.forms.proofs.Filling.{refused_short, taken_long, as_many, shown-fits, shown-at, fills, laid, take_all}
 use Rattle.forms.proofs.listing.iter.Goals as goal
 use Rattle.forms.proofs.listing.iter.Goals.{After-count-count}
 
-pub returns-then-list-lt-SLOTS : goal.returns-then-list-lt-SLOTS
-returns-then-list-lt-SLOTS c = let n = length c.args.list.now in
-    let l = lt-leb slots n c.if-list-lt-SLOTS.true in
-    record { answer = rw (l, lt-ltb n slots c.if-list-lt-SLOTS.true) refl; list = rw l refl }
+pub returns-in_err-list_refusal : goal.returns-in_err-list_refusal
+returns-in_err-list_refusal c = let n = length c.args.list.now in
+    let t = told (list_row slots n ∷ []) refl (sym c.list_refusal.ensures ∙ c.in_err-list_refusal.was) in
+    let l = lt-leb slots n (refused_short n t.1) in
+    rw (passed_up _ _ c.from_residual.ensures.1) (record { answer = rw (t.0, l) refl; list = rw l refl })
+
+-- a list that is taken has room for all
+taken : (c : After-count-count) → slots ≤ length c.args.list.now
+taken c = taken_long (length c.args.list.now) (done_is _ (sym c.list_refusal.ensures ∙ c.in_ok-list_refusal.was))
 
 -- as many are written as are shown, and the list has that many rows
 as_shown : (c : After-count-count) → c.count-count.result ≡ length (shown c.args.m.now (length c.args.list.now))
-as_shown c = rw (le-leb slots (length c.args.list.now) c.if-list-lt-SLOTS.false) (c.count-count.ensures ∙ sym (as_many c.args.m.now))
+as_shown c = rw (le-leb slots (length c.args.list.now) (taken c)) (c.count-count.ensures ∙ sym (as_many c.args.m.now))
 
 room : (c : After-count-count) → c.count-count.result ≤ length c.args.list.now
 room c = omega (arith, as_shown c, (shown-fits c.args.m.now (length c.args.list.now)).1)
@@ -60,6 +67,6 @@ returns c =
     let w = rows here in
     let all : c.loop-i.i ≡ length es = omega (arith, c.loop-i.auto.i-end) in
     record {
-      answer = rw (n, le-ltb len slots c.if-list-lt-SLOTS.false) refl;
+      answer = rw (n, le-ltb len slots (taken here)) refl;
       list = laid es c.args.list.now c.loop-i.row-items c.count-count.result n (room here) (rw (← take_all es, ← all) c.loop-i.invariant);
     }
