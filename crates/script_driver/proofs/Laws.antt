@@ -47,26 +47,28 @@ front_size n k l e = sym (length-take-le k l (front_le n k l e))
 pub itself_in : {front : List ℕ} {v : View} {src lent r : Bor (List ℕ)} → Itself (record { start = 0; bytes = front }) src lent → Itself v lent r → Itself v src r
 itself_in p q = record { holds = q.holds; block = q.block ∙ p.block; offset = omega (arith, p.offset, q.offset) }
 
--- left is what a call left of the first k of old
-pub lent_front : (n k : ℕ) (old left : List ℕ) → k ≡ short_of n (length old) → length left ≡ length (take k old) → lend n (left ++ drop k old) ≡ left
-lent_front n k old left e h =
-    let q : length left ≡ k = h ∙ length-take-le k old (omega (arith, short_le n (length old))) in
-    by_test (leb n (length old)) (λ t. let w : k ≡ n = e ∙ rw t refl in take_at left (drop k old) n (q ∙ w))
-    (λ t.
-    let w : k ≡ length old = e ∙ rw t refl in
-    ap (λ (x : List ℕ). take n (left ++ x)) (drop_of_length-le old {i = k} (omega arith))
-    ∙ ap (take n) (append-nil left)
-    ∙ take_all n left (omega (arith, leb-false n (length old) t)))
+-- what a call left of the first k of old: the array is that in front, and behind it as it was
+module _ (n k : ℕ) (old left : List ℕ) (e : k ≡ short_of n (length old)) (h : length left ≡ length (take k old)) where
+  size : length left ≡ k
+  size = h ∙ length-take-le k old (front_le n k old e)
 
-pub lent_behind : (n k : ℕ) (old left : List ℕ) → k ≡ short_of n (length old) → length left ≡ length (take k old) → past_lent n (left ++ drop k old) ≡ past_lent n old
-lent_behind n k old left e h =
-    let q : length left ≡ k = h ∙ length-take-le k old (omega (arith, short_le n (length old))) in
-    by_test (leb n (length old)) (λ t. let w : k ≡ n = e ∙ rw t refl in drop_at left (drop k old) n (q ∙ w) ∙ ap (λ (i : ℕ). drop i old) w)
-    (λ t.
-    let w : k ≡ length old = e ∙ rw t refl in
-    let far : length old < n = leb-false n (length old) t in
-    drop_of_length-le (left ++ drop k old) {i = n} (simp (length-append, length-drop) (omega arith))
-    ∙ sym (drop_of_length-le old {i = n} (omega arith)))
+  pub lent_front : lend n (left ++ drop k old) ≡ left
+  lent_front =
+      by_test (leb n (length old)) (λ t. let w : k ≡ n = e ∙ rw t refl in take_at left (drop k old) n (size ∙ w))
+      (λ t.
+      let w : k ≡ length old = e ∙ rw t refl in
+      ap (λ (x : List ℕ). take n (left ++ x)) (drop_of_length-le old {i = k} (omega arith))
+      ∙ ap (take n) (append-nil left)
+      ∙ take_all n left (omega (arith, size, leb-false n (length old) t)))
+
+  pub lent_behind : past_lent n (left ++ drop k old) ≡ past_lent n old
+  lent_behind =
+      by_test (leb n (length old)) (λ t. let w : k ≡ n = e ∙ rw t refl in drop_at left (drop k old) n (size ∙ w) ∙ ap (λ (i : ℕ). drop i old) w)
+      (λ t.
+      let w : k ≡ length old = e ∙ rw t refl in
+      let far : length old < n = leb-false n (length old) t in
+      drop_of_length-le (left ++ drop k old) {i = n} (simp (length-append, length-drop) (omega (arith, size)))
+      ∙ sym (drop_of_length-le old {i = n} (omega arith)))
 
 -- a fact of some lists, at lists that are equal to them
 pub moved2 : (P : List ℕ → List ℕ → Type 0) {a a' b b' : List ℕ} → a ≡ a' → b ≡ b' → P a b → P a' b'

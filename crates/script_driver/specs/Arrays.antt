@@ -7,9 +7,10 @@ use Rattle.script_fields.specs.Write.{flag_number, sum_of}
 use Rattle.peripheral_set.specs.declared.Entry.{Entry}
 use Rattle.peripheral_set.specs.Marks.{listed}
 use Rattle.master.specs.declared.unit.DpMaster.{DpMaster}
-use Rattle.master.specs.Pools.{lend}
+use Rattle.master.specs.Pools.{Pools, pools_of, lend}
 use Rattle.access.specs.Lookup.{entry_at}
 use Rattle.script_dump.specs.declared.Sums.{Sums}
+use Rattle.script_driver.specs.declared.arrays.Arrays.{Arrays}
 
 -- what a call is lent of an array: its first so many bytes, and no more than it has
 abbrev pub lent_view : ℕ → List ℕ → View
@@ -55,3 +56,25 @@ pub record Entered (m : DpMaster) (list after : List ℕ) (r : ℕ) : Type 0 whe
 -- D: the checksums of the whole arrays
 abbrev pub sums_of : List ℕ → List ℕ → List ℕ → List ℕ → Sums
 sums_of setup inputs outputs diags = record { setup = sum_of setup; inputs = sum_of inputs; outputs = sum_of outputs; diags = sum_of diags }
+
+-- ---- all arrays
+
+-- the bytes of the four pool arrays
+abbrev pub pools_held : Arrays → Pools
+pools_held a = pools_of a.setup.now a.inputs.now a.outputs.now a.diags.now
+
+-- the same arrays with other bytes in the four pools, in the payload, or in the list
+abbrev pub pools_are : Pools → Arrays → Arrays
+pools_are p a =
+    record a {
+      setup = record a.setup { now = p.setup };
+      inputs = record a.inputs { now = p.inputs };
+      outputs = record a.outputs { now = p.outputs };
+      diags = record a.diags { now = p.diags };
+    }
+
+abbrev pub payload_is : List ℕ → Arrays → Arrays
+payload_is bytes a = record a { payload = record a.payload { now = bytes } }
+
+abbrev pub list_is : List ℕ → Arrays → Arrays
+list_is bytes a = record a { list = record a.list { now = bytes } }

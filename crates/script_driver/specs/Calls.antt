@@ -1,21 +1,19 @@
 -- The calls on the lent parts of the arrays, and what stands in the arrays afterwards.
 -- From docs/SCRIPTS.md, "What the program holds" (which arrays a call takes) and "Calls".
 -- A call does to the lent parts what its contract says; behind them the array is as it was.
-use Rattle.std.specs.Prelude.{◌≡◌, ℕ, ◌*◌, Bool, cond, List, length, leb}
+use Rattle.std.specs.Prelude.{◌≡◌, ℕ, ◌*◌, Bool, cond, List, length, leb, Result, Ok, Err}
+use Rattle.refusals.specs.declared.Refusal.{Refusal}
+use Rattle.refusals.specs.declared.Refusal.TheVariants.{BadLent}
 use Rattle.fdl.specs.declared.telegram.Telegram.{Telegram}
 use Rattle.peripheral_set.specs.declared.PeripheralHandle.{PeripheralHandle}
 use Rattle.peripheral_set.specs.Marks.{slots, listed}
 use Rattle.master.specs.declared.add.Addition.{Addition}
-use Rattle.master.specs.declared.add.Added.{Added}
-use Rattle.master.specs.declared.turn.Turn.{Turn}
-use Rattle.master.specs.declared.receive.Answered.{Answered}
 use Rattle.master.specs.Pools.{pools_of, lend}
-use Rattle.master.specs.Add.{Adding}
-use Rattle.master.specs.Turn.{Turned}
-use Rattle.master.specs.Receive.{Received}
+use Rattle.master.specs.Add.{Added, Adding}
+use Rattle.master.specs.Turn.{Turn, Turned}
+use Rattle.master.specs.Receive.{Answered, Received}
 use Rattle.access.specs.Lookup.{OutputsWritten}
 use Rattle.script_driver.specs.declared.run.Run.{Run}
-use Rattle.script_driver.specs.declared.calls.Shown.{Shown}
 use Rattle.script_driver.specs.Arrays.{past_lent, filled, filled_entries, put_entries}
 
 -- P
@@ -61,9 +59,9 @@ pub record LentWrite (run : Run) (h : PeripheralHandle) (bytes outputs out : Lis
   pub output_pool : RunKept run.lent.outputs outputs out
 
 -- H: a lent list under 32 entries is refused as 2, and nothing is listed
-abbrev pub listing_of : Bool → List ℕ → Shown
-listing_of enough slots = record { refusal = cond enough 0 2; len = cond enough (3 * length slots) 0 }
+abbrev pub listing_of : Bool → List ℕ → Result ℕ Refusal
+listing_of enough slots = cond enough (Ok (3 * length slots)) (Err BadLent)
 
-pub record ListingDone (run : Run) (list out : List ℕ) (r : Shown) : Type 0 where
+pub record ListingDone (run : Run) (list out : List ℕ) (r : Result ℕ Refusal) : Type 0 where
   pub answer : r ≡ listing_of (leb slots run.lent.list) (listed run.unit.occupied)
   pub bytes : out ≡ cond (leb slots run.lent.list) (put_entries run.unit (listed run.unit.occupied) 0 list) list

@@ -5,6 +5,7 @@ use Rattle.fdl.specs.declared.parameters.Parameters.{Parameters}
 use Rattle.fdl.specs.Params.{lowest}
 use Rattle.master.specs.declared.unit.DpMaster.{DpMaster}
 use Rattle.master.specs.Unit.{created_of}
+use Rattle.refusals.specs.Table.{outcome}
 use Rattle.script_lines.specs.declared.Lent.{Lent}
 use Rattle.script_lines.specs.declared.Call.{Call}
 use Rattle.script_lines.specs.declared.Call.TheVariants.{New}
@@ -25,7 +26,7 @@ nothing_made = record { unit = (created_of lowest).master; made = false; own = r
 
 -- N: a new unit, also where creation is refused
 abbrev pub made_of : Parameters → Made
-made_of p = record { refusal = (created_of p).refusal; run = run_with true (created_of p).master }
+made_of p = record { run = run_with true (created_of p).master; outcome = outcome (created_of p).refusal }
 
 -- L: other lent lengths for the next call
 abbrev pub lend_is : Lent → Run → Run
@@ -34,6 +35,10 @@ lend_is l run = record { unit = run.unit; made = run.made; own = run.own; lent =
 -- after a call: its unit, and the lent lengths as N set them
 abbrev pub after_call : DpMaster → Run → Run
 after_call m run = record { unit = m; made = run.made; own = run.own; lent = run.own }
+
+-- the same with another unit
+abbrev pub unit_is : DpMaster → Run → Run
+unit_is m run = record { unit = m; made = run.made; own = run.own; lent = run.lent }
 
 -- the call of an N
 abbrev pub is_new : Call → Bool

@@ -1,12 +1,30 @@
 // The arrays of a driver: what is lent of them, what P and F fill in, and the listing of H.
 ghost use Rattle.std.specs.Prelude.{◌≡◌};
 ghost use Rattle.parts.specs.Parts.{Itself};
-ghost use Rattle.script_driver.specs.Arrays.{short_of, lent_view, filled, entry_byte, filled_entries, put_entry, Entered, sums_of};
+ghost use Rattle.script_driver.specs.Arrays.{short_of, lent_view, filled, entry_byte, filled_entries, put_entry, Entered, sums_of, pools_held, pools_are, payload_is, list_is};
+ghost use Rattle.script_driver.specs.Calls.{PoolsFilled, PayloadFilled};
 
 use master::unit::DpMaster;
 use peripheral_set::Entry;
 use script_dump::Sums;
 use script_fields::write;
+
+// What a driver holds beside its unit, lent to it.
+#[derive(Drop)]
+pub struct Arrays<'a> {
+    // Set-up data of all balances.
+    pub setup: &'a mut [u8],
+    // Their input images.
+    pub inputs: &'a mut [u8],
+    // Their output images.
+    pub outputs: &'a mut [u8],
+    // Their extended diagnosis.
+    pub diags: &'a mut [u8],
+    // What a turn sends.
+    pub payload: &'a mut [u8],
+    // The listing: three bytes an entry.
+    pub list: &'a mut [u8],
+}
 
 // How many bytes of an array are lent: no more than it has.
 pub fn front(n: u16, len: usize) -> usize
@@ -54,8 +72,8 @@ fn put_entry(list: &mut [u8], k: usize, e: Entry)
 }
 
 // The listing goes into the list, three bytes an entry; answers how many bytes.
-pub fn put_entries(unit: DpMaster, list: &mut [u8]) -> usize
-    ensures { Entered unit list.old list.new result }
+pub fn put_entries(unit: &DpMaster, list: &mut [u8]) -> usize
+    ensures { Entered unit.now list.old list.new result }
 {
     let count = access::listing::count(unit);
     for k in 0..count {
@@ -64,14 +82,47 @@ pub fn put_entries(unit: DpMaster, list: &mut [u8]) -> usize
     3 * count
 }
 
-// The sums of the four whole pool arrays.
-pub fn sums(setup: &[u8], inputs: &[u8], outputs: &[u8], diags: &[u8]) -> Sums
-    ensures { result ≡ sums_of setup.now inputs.now outputs.now diags.now }
-{
-    Sums {
-        setup: write::sum(setup),
-        inputs: write::sum(inputs),
-        outputs: write::sum(outputs),
-        diags: write::sum(diags),
+impl Arrays<'_> {
+    // P: all bytes of the four pool arrays become `b`.
+    pub fn fill_pools(&mut self, b: u8)
+        ensures bytes { PoolsFilled b self.old.setup.now self.old.inputs.now self.old.outputs.now self.old.diags.now self.new.setup.now self.new.inputs.now self.new.outputs.now self.new.diags.now }
+        ensures others { self.new ≡ pools_are (pools_held self.new) self.old }
+    {
+        fill(self.setup, b);
+        fill(self.inputs, b);
+        fill(self.outputs, b);
+        fill(self.diags, b);
+    }
+
+    // F: all payload bytes become `b`, all entries of the list (b, b, b mod 2).
+    pub fn fill_payload(&mut self, b: u8)
+        ensures bytes { PayloadFilled b self.old.payload.now self.old.list.now self.new.payload.now self.new.list.now }
+        ensures others { self.new ≡ payload_is self.new.payload.now (list_is self.new.list.now self.old) }
+    {
+        fill(self.payload, b);
+        fill_list(self.list, b);
+    }
+
+    // N: all arrays become zero.
+    pub fn clear(&mut self)
+        ensures pools { PoolsFilled 0 self.old.setup.now self.old.inputs.now self.old.outputs.now self.old.diags.now self.new.setup.now self.new.inputs.now self.new.outputs.now self.new.diags.now }
+        ensures others { (self.new.payload.now ≡ filled 0 self.old.payload.now) × (self.new.list.now ≡ filled 0 self.old.list.now) }
+        ensures same { self.new ≡ pools_are (pools_held self.new) (payload_is self.new.payload.now (list_is self.new.list.now self.old)) }
+    {
+        self.fill_pools(0);
+        fill(self.payload, 0);
+        fill(self.list, 0);
+    }
+
+    // D: the sums of the four whole pool arrays.
+    pub fn sums(&self) -> Sums
+        ensures { result ≡ sums_of self.now.setup.now self.now.inputs.now self.now.outputs.now self.now.diags.now }
+    {
+        Sums {
+            setup: write::sum(self.setup),
+            inputs: write::sum(self.inputs),
+            outputs: write::sum(self.outputs),
+            diags: write::sum(self.diags),
+        }
     }
 }

@@ -1,210 +1,162 @@
 // The calls, each lent the first so many bytes of the arrays that it takes.
 ghost use Rattle.std.specs.Prelude.{◌≡◌};
 ghost use Rattle.parts.specs.Parts.{Itself};
-ghost use Rattle.access.specs.Lookup.{found_in, input_number, output_number, diag_number, inputs_seen, outputs_seen, extended_seen, last_of};
+ghost use Rattle.refusals.specs.Table.{outcome, number_of};
 ghost use Rattle.master.specs.Pools.{lend};
-ghost use Rattle.script_driver.specs.Arrays.{filled};
-ghost use Rattle.script_driver.specs.Calls.{PoolsFilled, PayloadFilled, LentAdd, LentTurn, LentReply, LentWrite, ListingDone};
+ghost use Rattle.master.specs.Add.{added_of};
+ghost use Rattle.access.specs.Lookup.{found_in, input_number, output_number, diag_number, inputs_seen, outputs_seen, extended_seen, last_of};
+ghost use Rattle.script_driver.specs.Arrays.{pools_held, pools_are, payload_is};
+ghost use Rattle.script_driver.specs.Run.{unit_is};
+ghost use Rattle.script_driver.specs.Calls.{LentAdd, LentTurn, LentReply, LentWrite, ListingDone};
 
-use crate::arrays::{fill, fill_list, front, lent, put_entries};
+use crate::arrays::{front, lent, put_entries, Arrays};
 use crate::run::Run;
-use access::diagnosis::LastDiagnosis;
+use answers::reply_answer::ReplyAnswer;
+use answers::turn::TurnAnswer;
 use fdl::telegram::Telegram;
-use master::add::{Added, Addition};
-use master::receive::Answered;
-use master::turn::Turn;
+use master::add::Addition;
+use payloads::diagnosis::DiagnosticsInfo;
 use peripheral_set::{PeripheralHandle, SLOTS};
+use refusals::Refusal;
 
-// P: all bytes of the four pool arrays become `b`.
-pub fn fill_pools(b: u8, setup: &mut [u8], inputs: &mut [u8], outputs: &mut [u8], diags: &mut [u8])
-    ensures { PoolsFilled b setup.old inputs.old outputs.old diags.old setup.new inputs.new outputs.new diags.new }
-{
-    fill(setup, b);
-    fill(inputs, b);
-    fill(outputs, b);
-    fill(diags, b);
-}
-
-// F: all payload bytes become `b`, all entries of the list (b, b, b mod 2).
-pub fn fill_payload(b: u8, payload: &mut [u8], list: &mut [u8])
-    ensures { PayloadFilled b payload.old list.old payload.new list.new }
-{
-    fill(payload, b);
-    fill_list(list, b);
-}
-
-// N: all arrays become zero.
-pub fn clear(
-    setup: &mut [u8],
-    inputs: &mut [u8],
-    outputs: &mut [u8],
-    diags: &mut [u8],
-    payload: &mut [u8],
-    list: &mut [u8],
-)
-    ensures pools { PoolsFilled 0 setup.old inputs.old outputs.old diags.old setup.new inputs.new outputs.new diags.new }
-    ensures others { (payload.new ≡ filled 0 payload.old) × (list.new ≡ filled 0 list.old) }
-{
-    fill_pools(0, setup, inputs, outputs, diags);
-    fill(payload, 0);
-    fill(list, 0);
-}
-
-// A: the unit's `add`, lent the front of the four pool arrays.
-pub fn add(
-    run: Run,
-    addition: Addition,
-    user: &[u8],
-    config: &[u8],
-    setup: &mut [u8],
-    inputs: &mut [u8],
-    outputs: &mut [u8],
-    diags: &mut [u8],
-) -> Added
-    ensures { LentAdd run addition user.now config.now setup.old inputs.old outputs.old diags.old setup.new inputs.new outputs.new diags.new result }
-{
-    let unit = run.unit;
-    let l = run.lent;
-    let s = front(l.setup, setup.len());
-    let i = front(l.inputs, inputs.len());
-    let q = front(l.outputs, outputs.len());
-    let d = front(l.diags, diags.len());
-    unit.add(
-        addition,
-        user,
-        config,
-        &mut setup[..s],
-        &mut inputs[..i],
-        &mut outputs[..q],
-        &mut diags[..d],
-    )
-}
-
-// T: the unit's `transmit_telegram`, lent the front of the set-up, output and payload arrays.
-pub fn turn(
-    run: Run,
-    time: u64,
-    high_prio_only: bool,
-    setup: &[u8],
-    outputs: &[u8],
-    payload: &mut [u8],
-) -> Turn
-    ensures { LentTurn run time high_prio_only setup.now outputs.now payload.old payload.new result }
-{
-    let unit = run.unit;
-    let l = run.lent;
-    let k = front(l.payload, payload.len());
-    unit.transmit_telegram(
-        time,
-        high_prio_only,
-        lent(setup, l.setup),
-        lent(outputs, l.outputs),
-        &mut payload[..k],
-    )
-}
-
-// R: the unit's `receive_reply`, lent the front of the input and diagnosis arrays.
-pub fn reply(
-    run: Run,
-    address: u8,
-    telegram: Telegram,
-    payload: &[u8],
-    inputs: &mut [u8],
-    diags: &mut [u8],
-) -> Answered
-    ensures { LentReply run address telegram payload.now inputs.old diags.old inputs.new diags.new result }
-{
-    let unit = run.unit;
-    let l = run.lent;
-    let i = front(l.inputs, inputs.len());
-    let d = front(l.diags, diags.len());
-    unit.receive_reply(
-        address,
-        telegram,
-        payload,
-        &mut inputs[..i],
-        &mut diags[..d],
-    )
-}
-
-// W: `write_outputs`, lent the front of the output array.
-pub fn write(run: Run, handle: PeripheralHandle, bytes: &[u8], outputs: &mut [u8]) -> u8
-    ensures { LentWrite run handle bytes.now outputs.old outputs.new result }
-{
-    let unit = run.unit;
-    let l = run.lent;
-    let q = front(l.outputs, outputs.len());
-    access::images::write_outputs(unit, handle, bytes, &mut outputs[..q])
-}
-
-// The number of I.
-pub fn inputs_refusal(run: Run, handle: PeripheralHandle, inputs: &[u8]) -> u8
-    ensures { result ≡ input_number run.unit handle (lend run.lent.inputs inputs.now) }
-{
-    let l = run.lent;
-    access::images::pi_i_refusal(run.unit, handle, lent(inputs, l.inputs))
-}
-
-// I: `pi_i`, lent the front of the input array.
-pub fn inputs(run: Run, handle: PeripheralHandle, inputs: &[u8]) -> &[u8]
-    ensures { Itself (inputs_seen run.unit handle (lend run.lent.inputs inputs.now)) inputs.entry result }
-{
-    let l = run.lent;
-    access::images::pi_i(run.unit, handle, lent(inputs, l.inputs))
-}
-
-// The number of O.
-pub fn outputs_refusal(run: Run, handle: PeripheralHandle, outputs: &[u8]) -> u8
-    ensures { result ≡ output_number run.unit handle (lend run.lent.outputs outputs.now) }
-{
-    let l = run.lent;
-    access::images::pi_q_refusal(run.unit, handle, lent(outputs, l.outputs))
-}
-
-// O: `pi_q`, lent the front of the output array.
-pub fn outputs(run: Run, handle: PeripheralHandle, outputs: &[u8]) -> &[u8]
-    ensures { Itself (outputs_seen run.unit handle (lend run.lent.outputs outputs.now)) outputs.entry result }
-{
-    let l = run.lent;
-    access::images::pi_q(run.unit, handle, lent(outputs, l.outputs))
-}
-
-// The numbers of G: `last_diagnostics`, lent the front of the diagnosis array.
-pub fn diagnosis(run: Run, handle: PeripheralHandle, diags: &[u8]) -> LastDiagnosis
-    ensures { result ≡ last_of (diag_number run.unit handle (lend run.lent.diags diags.now)) (found_in run.unit handle) }
-{
-    let l = run.lent;
-    access::diagnosis::last_diagnostics(run.unit, handle, lent(diags, l.diags))
-}
-
-// The extended part of G: `extended_diagnostics`, lent the front of the diagnosis array.
-pub fn extended(run: Run, handle: PeripheralHandle, diags: &[u8]) -> &[u8]
-    ensures { Itself (extended_seen run.unit handle (lend run.lent.diags diags.now)) diags.entry result }
-{
-    let l = run.lent;
-    access::diagnosis::extended_diagnostics(run.unit, handle, lent(diags, l.diags))
-}
-
-// The number of H, and how many bytes of the list its entries take.
-#[derive(Clone, Copy)]
-pub struct Shown {
-    // 0, or 2 where the lent list has fewer entries than there are slots.
-    pub refusal: u8,
-    // Bytes of the list array that the entries take, three each; 0 when refused.
-    pub len: usize,
-}
-
-// H: the listing into the list array, refused by the lent length as `iter` would be.
-pub fn listing(run: Run, list: &mut [u8]) -> Shown
-    ensures { ListingDone run list.old list.new result }
-{
-    let l = run.lent;
-    if parts::widen16(l.list) < SLOTS {
-        return Shown { refusal: 2, len: 0 };
+impl Run {
+    // A: the unit's `add`, lent the front of the four pool arrays.
+    pub fn add(
+        &mut self,
+        addition: Addition,
+        user: &[u8],
+        config: &[u8],
+        arrays: &mut Arrays,
+    ) -> Result<PeripheralHandle, Refusal>
+        ensures call { LentAdd self.old addition user.now config.now arrays.old.setup.now arrays.old.inputs.now arrays.old.outputs.now arrays.old.diags.now arrays.new.setup.now arrays.new.inputs.now arrays.new.outputs.now arrays.new.diags.now (added_of result self.new.unit) }
+        ensures run { self.new ≡ unit_is self.new.unit self.old }
+        ensures others { arrays.new ≡ pools_are (pools_held arrays.new) arrays.old }
+    {
+        let l = self.lent;
+        let s = front(l.setup, arrays.setup.len());
+        let i = front(l.inputs, arrays.inputs.len());
+        let q = front(l.outputs, arrays.outputs.len());
+        let d = front(l.diags, arrays.diags.len());
+        self.unit.add(
+            addition,
+            user,
+            config,
+            &mut arrays.setup[..s],
+            &mut arrays.inputs[..i],
+            &mut arrays.outputs[..q],
+            &mut arrays.diags[..d],
+        )
     }
-    let len = put_entries(run.unit, list);
-    Shown {
-        refusal: 0,
-        len: len,
+
+    // T: the unit's `transmit_telegram`, lent the front of the set-up, output and payload arrays.
+    pub fn turn(&mut self, time: u64, high_prio_only: bool, arrays: &mut Arrays) -> TurnAnswer
+        ensures call { LentTurn self.old time high_prio_only arrays.old.setup.now arrays.old.outputs.now arrays.old.payload.now arrays.new.payload.now (record { master = self.new.unit; answer = result }) }
+        ensures run { self.new ≡ unit_is self.new.unit self.old }
+        ensures others { arrays.new ≡ payload_is arrays.new.payload.now arrays.old }
+    {
+        let l = self.lent;
+        let s = front(l.setup, arrays.setup.len());
+        let o = front(l.outputs, arrays.outputs.len());
+        let k = front(l.payload, arrays.payload.len());
+        self.unit.transmit_telegram(
+            time,
+            high_prio_only,
+            &mut arrays.setup[..s],
+            &mut arrays.outputs[..o],
+            &mut arrays.payload[..k],
+        )
+    }
+
+    // R: the unit's `receive_reply`, lent the front of the input and diagnosis arrays.
+    pub fn reply(
+        &mut self,
+        address: u8,
+        telegram: Telegram,
+        payload: &[u8],
+        arrays: &mut Arrays,
+    ) -> ReplyAnswer
+        ensures call { LentReply self.old address telegram payload.now arrays.old.inputs.now arrays.old.diags.now arrays.new.inputs.now arrays.new.diags.now (record { master = self.new.unit; answer = result }) }
+        ensures run { self.new ≡ unit_is self.new.unit self.old }
+        ensures others { arrays.new ≡ pools_are (record (pools_held arrays.old) { inputs = arrays.new.inputs.now; diags = arrays.new.diags.now }) arrays.old }
+    {
+        let l = self.lent;
+        let i = front(l.inputs, arrays.inputs.len());
+        let d = front(l.diags, arrays.diags.len());
+        self.unit.receive_reply(
+            address,
+            telegram,
+            payload,
+            &mut arrays.inputs[..i],
+            &mut arrays.diags[..d],
+        )
+    }
+
+    // W: `write_outputs`, lent the front of the output array.
+    pub fn write(
+        &self,
+        handle: PeripheralHandle,
+        bytes: &[u8],
+        outputs: &mut [u8],
+    ) -> Result<(), Refusal>
+        ensures { LentWrite self.now handle bytes.now outputs.old outputs.new (number_of result) }
+    {
+        let q = front(self.lent.outputs, outputs.len());
+        access::images::write_outputs(&self.unit, handle, bytes, &mut outputs[..q])
+    }
+
+    // Whether I is refused.
+    pub fn inputs_refusal(&self, handle: PeripheralHandle, inputs: &[u8]) -> Result<(), Refusal>
+        ensures { result ≡ outcome (input_number self.now.unit handle (lend self.now.lent.inputs inputs.now)) }
+    {
+        access::images::pi_i_refusal(&self.unit, handle, lent(inputs, self.lent.inputs))
+    }
+
+    // I: `pi_i`, lent the front of the input array.
+    pub fn inputs<'a>(&self, handle: PeripheralHandle, inputs: &'a [u8]) -> &'a [u8]
+        ensures { Itself (inputs_seen self.now.unit handle (lend self.now.lent.inputs inputs.now)) inputs.entry result }
+    {
+        access::images::pi_i(&self.unit, handle, lent(inputs, self.lent.inputs))
+    }
+
+    // Whether O is refused.
+    pub fn outputs_refusal(&self, handle: PeripheralHandle, outputs: &[u8]) -> Result<(), Refusal>
+        ensures { result ≡ outcome (output_number self.now.unit handle (lend self.now.lent.outputs outputs.now)) }
+    {
+        access::images::pi_q_refusal(&self.unit, handle, lent(outputs, self.lent.outputs))
+    }
+
+    // O: `pi_q`, lent the front of the output array.
+    pub fn outputs<'a>(&self, handle: PeripheralHandle, outputs: &'a [u8]) -> &'a [u8]
+        ensures { Itself (outputs_seen self.now.unit handle (lend self.now.lent.outputs outputs.now)) outputs.entry result }
+    {
+        access::images::pi_q(&self.unit, handle, lent(outputs, self.lent.outputs))
+    }
+
+    // The numbers of G: `last_diagnostics`, lent the front of the diagnosis array.
+    pub fn diagnosis(
+        &self,
+        handle: PeripheralHandle,
+        diags: &[u8],
+    ) -> Result<DiagnosticsInfo, Refusal>
+        ensures { result ≡ last_of (diag_number self.now.unit handle (lend self.now.lent.diags diags.now)) (found_in self.now.unit handle) }
+    {
+        access::diagnosis::last_diagnostics(&self.unit, handle, lent(diags, self.lent.diags))
+    }
+
+    // The extended part of G: `extended_diagnostics`, lent the front of the diagnosis array.
+    pub fn extended<'a>(&self, handle: PeripheralHandle, diags: &'a [u8]) -> &'a [u8]
+        ensures { Itself (extended_seen self.now.unit handle (lend self.now.lent.diags diags.now)) diags.entry result }
+    {
+        access::diagnosis::extended_diagnostics(&self.unit, handle, lent(diags, self.lent.diags))
+    }
+
+    // H: the listing into the list array, refused by the lent length as `iter` would be; answers how many bytes its entries take, three each.
+    pub fn listing(&self, list: &mut [u8]) -> Result<usize, Refusal>
+        ensures { ListingDone self.now list.old list.new result }
+    {
+        if usize::from(self.lent.list) < SLOTS {
+            return Err(Refusal::BadLent);
+        }
+        Ok(put_entries(&self.unit, list))
     }
 }

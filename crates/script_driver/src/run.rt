@@ -4,6 +4,7 @@ ghost use Rattle.script_driver.specs.Run.{run_lent, nothing_made, made_of, lend_
 
 use fdl::parameters::Parameters;
 use master::unit::DpMaster;
+use refusals::Refusal;
 use script_lines::{Call, Lent};
 
 // The unit, whether there was an N yet, the lent lengths as N set them, and those of the next call.
@@ -22,10 +23,10 @@ pub struct Run {
 // What an N answers and leaves.
 #[derive(Clone, Copy)]
 pub struct Made {
-    // 0, or 1 where a parameter is outside its range.
-    pub refusal: u8,
     // The new unit with the lent lengths of its record, also where creation is refused.
     pub run: Run,
+    // Done, or refused as 1 where a parameter is outside its range.
+    pub outcome: Result<(), Refusal>,
 }
 
 // The lent lengths of a new unit: the pools of its record, a payload of 255 bytes and 32 entries.
@@ -48,14 +49,12 @@ impl Run {
         ensures { result ≡ nothing_made }
     {
         let low = Parameters::lowest();
-        let made = DpMaster::new(low);
-        let unit = made.master;
         let lent = lent_of(low);
         Run {
-            unit: unit,
+            unit: DpMaster::new(low).master,
             made: false,
             own: lent,
-            lent: lent,
+            lent,
         }
     }
 
@@ -63,37 +62,31 @@ impl Run {
     pub fn new(p: Parameters) -> Made
         ensures { result ≡ made_of p }
     {
-        let made = DpMaster::new(p);
-        let unit = made.master;
-        let lent = lent_of(unit.parameters);
-        let run = Run {
-            unit: unit,
-            made: true,
-            own: lent,
-            lent: lent,
-        };
+        let created = DpMaster::new(p);
+        let lent = lent_of(created.master.parameters);
         Made {
-            refusal: made.refusal,
-            run: run,
+            run: Run {
+                unit: created.master,
+                made: true,
+                own: lent,
+                lent,
+            },
+            outcome: created.outcome,
         }
     }
 
     // L: other lent lengths for the next call.
-    pub fn lend(self, lent: Lent) -> Run
-        ensures { result ≡ lend_is lent self }
+    pub fn lend(&mut self, lent: Lent)
+        ensures { self.new ≡ lend_is lent self.old }
     {
-        Run { lent, ..self }
+        self.lent = lent;
     }
 
-    // With the unit that a call left, and the lent lengths as N set them.
-    pub fn after(self, unit: DpMaster) -> Run
-        ensures { result ≡ after_call unit self }
+    // After a call: the lent lengths are again as N set them.
+    pub fn after(&mut self)
+        ensures { self.new ≡ after_call self.old.unit self.old }
     {
-        Run {
-            unit,
-            lent: self.own,
-            ..self
-        }
+        self.lent = self.own;
     }
 }
 

@@ -10,7 +10,7 @@ use Rattle.script_driver.proofs.Laws.{few, entries_more, entries_done}
 use Rattle.script_driver.proofs.arrays.put_entries.Goals as goal
 
 pub loop-k-preserved : goal.loop-k-preserved
-loop-k-preserved c = let u = c.args.unit in
+loop-k-preserved c = let u = c.args.unit.now in
     let l = c.loop-k in
     let p = c.put_entry in
     let h : l.k < length (listed u.occupied) = omega (arith, c.count-count.ensures) in
@@ -19,9 +19,9 @@ loop-k-preserved c = let u = c.args.unit in
     ∙ l.invariant
 
 pub overflow_mul-result : goal.overflow_mul-result
-overflow_mul-result c = omega (arith, few slots c.args.unit.occupied 0, c.count-count.ensures)
+overflow_mul-result c = omega (arith, few slots c.args.unit.now.occupied 0, c.count-count.ensures)
 
 pub returns : goal.returns
-returns c = let u = c.args.unit in
+returns c = let u = c.args.unit.now in
     let l = c.loop-k in
     record { len = ap (λ (n : ℕ). 3 * n) c.count-count.ensures; bytes = sym (entries_done u (listed u.occupied) l.k l.list (omega (arith, c.count-count.ensures))) ∙ l.invariant }

@@ -3,7 +3,7 @@ use native.Mathlib.Omega.{arith}
 use Prim.Native.Nat.{◌-◌}
 use lib.ListN.{length}
 use Rattle.script_driver.proofs.Laws.{newline_from, newline_to}
-use Rattle.script.proofs.lines_of.Goals as goal
+use Rattle.script.proofs.Driver.lines_of.Goals as goal
 
 pub overflow_sub-end : goal.overflow_sub-end
 overflow_sub-end g c =

@@ -1,5 +1,0 @@
--- `outputs_refusal` meets its contract: the accessor's own, on the lent front.
-use Rattle.script_driver.proofs.calls.outputs_refusal.Goals as goal
-
-pub returns : goal.returns
-returns c = simp c.lent.ensures.holds at c.pi_q_refusal.ensures
