@@ -173,6 +173,7 @@ none_told i b e =
     not_not : (b : Bool) → true ≡ not b → b ≡ false
     not_not true q = q
     not_not false q = refl
+
     true_not : (b : Bool) → false ≡ not b → b ≡ true
     true_not true q = refl
     true_not false q = q
