@@ -12,6 +12,7 @@ use peripheral_set::PeripheralHandle;
 use station::state::PeripheralEvent;
 
 // What a turn sent.
+// Three outcomes, of which none is a failure: no `Option`.
 #[derive(Clone, Copy)]
 pub enum Transmission {
     // No telegram, and the payload buffer is as it was.

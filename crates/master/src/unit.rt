@@ -103,7 +103,7 @@ impl DpMaster {
         self.state = self.state.enter(state);
     }
 
-    // As `enter_state` with Stop: turns send nothing.
+    // As `enter_state` with Stop, by the Rust's name as the next two: turns send nothing.
     // Refuses: nothing.
     // Changes: as `enter_state`.
     pub fn enter_stop(&mut self)

@@ -156,26 +156,26 @@ same_number z y e = sym (outcome-back z) ∙ ap outcome e ∙ outcome-back y
 
 -- ---- the code's order: each row, `and` the next
 
-abbrev pub in_turn : Result Unit Refusal → List Row → Result Unit Refusal
-in_turn x [] = x
-in_turn x (r ∷ rows) = in_turn (result_and x (outcome (said r))) rows
+abbrev pub in_order : Result Unit Refusal → List Row → Result Unit Refusal
+in_order x [] = x
+in_order x (r ∷ rows) = in_order (result_and x (outcome (said r))) rows
 
 -- an answer so far, and then the rows
-from : (x : Result Unit Refusal) (rows : List Row) → numbered rows ≡ true → in_turn x rows ≡ result_and x (outcome (first_of rows))
+from_answer : (x : Result Unit Refusal) (rows : List Row) → numbered rows ≡ true → in_order x rows ≡ result_and x (outcome (first_of rows))
 unfolding given
-from (Ok tt) [] h = refl
-from (Err e) [] h = refl
-from (Err e) (r ∷ rows) h = from (Err e) rows (and_right (not (eqb r.number 0)) (numbered rows) h)
-from (Ok tt) (r ∷ rows) h =
-    from (outcome (said r)) rows (and_right (not (eqb r.number 0)) (numbered rows) h)
+from_answer (Ok tt) [] h = refl
+from_answer (Err e) [] h = refl
+from_answer (Err e) (r ∷ rows) h = from_answer (Err e) rows (and_right (not (eqb r.number 0)) (numbered rows) h)
+from_answer (Ok tt) (r ∷ rows) h =
+    from_answer (outcome (said r)) rows (and_right (not (eqb r.number 0)) (numbered rows) h)
     ∙ by r.applies (not-true (eqb r.number 0) (and_left (not (eqb r.number 0)) (numbered rows) h))
   where
     by : (b : Bool) → eqb r.number 0 ≡ false → result_and (outcome (cond b r.number 0)) (outcome (first_of rows)) ≡ outcome (cond b r.number (first_of rows))
     by true z = rw z refl
     by false z = refl
 
-pub in-turn : (rows : List Row) → numbered rows ≡ true → in_turn (Ok tt) rows ≡ outcome (first_of rows)
-in-turn rows h = from (Ok tt) rows h
+pub in-order : (rows : List Row) → numbered rows ≡ true → in_order (Ok tt) rows ≡ outcome (first_of rows)
+in-order rows h = from_answer (Ok tt) rows h
 
 -- ---- numbers put together by `or_else`
 
@@ -192,6 +192,27 @@ or_assoc a b c = by (eqb a 0) refl
     by : (t : Bool) → eqb a 0 ≡ t → or_else (or_else a b) c ≡ or_else a (or_else b c)
     by true e = rw e refl
     by false e = rw (e, e) refl
+
+-- each row in turn, where none before it spoke
+abbrev pub in_turn : ℕ → List Row → ℕ
+in_turn n [] = n
+in_turn n (r ∷ rows) = in_turn (or_else n (said r)) rows
+
+from : (n : ℕ) (rows : List Row) → numbered rows ≡ true → in_turn n rows ≡ or_else n (first_of rows)
+unfolding or_else
+from n [] h = by (eqb n 0) refl
+  where
+    by : (t : Bool) → eqb n 0 ≡ t → n ≡ or_else n 0
+    by true e = rw e (eqb-true n 0 e)
+    by false e = rw e refl
+from n (r ∷ rows) h =
+    from (or_else n (said r)) rows (and_right (not (eqb r.number 0)) (numbered rows) h)
+    ∙ or_assoc n (said r) (first_of rows)
+    ∙ ap (or_else n) (row_then r.applies r.number (first_of rows) (and_left (not (eqb r.number 0)) (numbered rows) h))
+
+pub in-turn : (rows : List Row) → numbered rows ≡ true → in_turn 0 rows ≡ first_of rows
+unfolding or_else
+in-turn rows h = from 0 rows h
 
 -- of two lists the second speaks where the first says 0
 pub both : (xs ys : List Row) → numbered xs ≡ true → first_of (xs ++ ys) ≡ or_else (first_of xs) (first_of ys)

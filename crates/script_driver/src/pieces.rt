@@ -3,6 +3,7 @@ ghost use Rattle.std.specs.Prelude.{◌≡◌};
 ghost use Rattle.script_driver.specs.Pieces.{line_end, Appended, is_unfinished};
 
 // How much of a line came, and whether it is too long.
+// The mark stands beside the count, and is no `Option`, since what fits stays after a piece that does not: `Appended`.
 #[derive(Clone, Copy)]
 pub struct Partial {
     // Bytes of the line that came so far and fit, at the front of the line's array.
