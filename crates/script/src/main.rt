@@ -18,12 +18,6 @@ use std::io::{self, Read};
 // The output has room for four of the longest answers; once there is none left for one more, what waits is written.
 const OUTPUT: usize = 4 * LONGEST;
 
-// Of a line nothing came yet.
-const NOTHING: Partial = Partial {
-    filled: 0,
-    long: false,
-};
-
 // The number of an outcome: 0 where it is done.
 fn outcome(outcome: Result<(), Refusal>) -> u8 {
     match outcome {
@@ -183,9 +177,8 @@ fn flushed(rt: &impl Print, out: &mut Text) -> io::Result<()>
 struct Driver<'a> {
     run: Run,
     arrays: Arrays<'a>,
-    // What came of a line, at the front of `text`.
-    line: Partial,
-    text: &'a mut [u8],
+    // What came of a line.
+    came: Partial<'a>,
 }
 
 impl Driver<'_> {
@@ -193,9 +186,9 @@ impl Driver<'_> {
     fn line(&mut self, out: &mut Text) {
         let mut a = [0u8; 255];
         let mut b = [0u8; 255];
-        let came = self.line;
-        let asked = script_lines::parse(parts::part(self.text, 0, came.filled), &mut a, &mut b);
-        match script_driver::run::call_made(self.run.made, came.long, asked) {
+        let filled = self.came.filled;
+        let asked = script_lines::parse(parts::part(self.came.line, 0, filled), &mut a, &mut b);
+        match script_driver::run::call_made(self.run.made, self.came.long, asked) {
             Some(call) => {
                 answer(&mut self.run, &mut self.arrays, call, &a, &b, out);
                 if ends_lending(call) {
@@ -204,7 +197,8 @@ impl Driver<'_> {
             }
             None => script_answers::bare(out, b'?'),
         }
-        self.line = NOTHING;
+        self.came.filled = 0;
+        self.came.long = false;
     }
 
     // The lines that end in a chunk, and the piece behind them.
@@ -212,12 +206,7 @@ impl Driver<'_> {
         let mut i = 0;
         while i < chunk.len() {
             let end = script_driver::pieces::line_end(chunk, i);
-            let came = self.line;
-            self.line = script_driver::pieces::append(
-                came,
-                parts::part(chunk, i, end - i),
-                self.text,
-            );
+            self.came.append(parts::part(chunk, i, end - i));
             if end < chunk.len() {
                 flushed(rt, out)?;
                 self.line(out);
@@ -229,7 +218,7 @@ impl Driver<'_> {
 
     // Writes what waits; an unfinished last line is no call.
     fn finish(&self, rt: &impl Print, out: &mut Text) -> io::Result<()> {
-        if script_driver::pieces::unfinished(self.line) {
+        if self.came.unfinished() {
             flushed(rt, out)?;
             script_answers::bare(out, b'?');
         }
@@ -267,12 +256,16 @@ fn main(rt: HostRuntime) -> io::Result<()> {
         payload: &mut [0; 300],
         list: &mut [0; 120],
     };
+    let came = Partial {
+        // a line has at most 2,000 bytes with its newline
+        line: &mut [0; 1999],
+        filled: 0,
+        long: false,
+    };
     let mut driver = Driver {
         run: Run::empty(),
         arrays,
-        line: NOTHING,
-        // a line has at most 2,000 bytes with its newline
-        text: &mut [0; 1999],
+        came,
     };
     let mut out = Text {
         out: &mut [0; OUTPUT],

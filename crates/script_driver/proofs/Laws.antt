@@ -1,6 +1,6 @@
 -- The laws of the lent parts, of the fills, of the listing and of the end of a line.
 -- The idea: what a call leaves in the lent front has that front's length, so the front of the array afterwards is just that, and the rest is as it was.
-use mathlib.Core.Path.{◌≡◌, refl, sym, ap, ◌∙◌, subst}
+use mathlib.Core.Path.{◌≡◌, refl, sym, ap, ◌∙◌}
 use mathlib.Core.Bool.{Bool, true, false}
 use mathlib.Core.List.{List, [], ◌∷◌, ◌++◌, append-nil, append_assoc}
 use Prim.Native.Nat.{ℕ, zero, suc, ◌+◌, ◌*◌, ◌/◌, ◌-◌, ◌≤◌, ◌<◌}
@@ -15,8 +15,6 @@ use Rattle.std.proofs.Common.{◌==◌}
 use Rattle.std.specs.Option.{unwrap_or}
 use Rattle.std.specs.List.{find, range_with_len}
 use borrow.Author.Tests.{leb-true, leb-false, lt-ltb, le-ltb}
-use denote.Ref.{Bor}
-use Rattle.parts.specs.Parts.{View, Itself}
 use Rattle.parts.proofs.Laws.{by_test}
 use Rattle.script_fields.specs.Write.{flag_number}
 use Rattle.peripheral_set.specs.declared.Entry.{Entry}
@@ -29,7 +27,7 @@ use Rattle.script_driver.specs.Pieces.{newline_in}
 
 -- ---- a lent front
 
-pub short_le : (n len : ℕ) → short_of n len ≤ len
+short_le : (n len : ℕ) → short_of n len ≤ len
 short_le n len = by_test (leb n len) (λ e. rw e (leb-true n len e)) (λ e. rw e (omega arith))
 
 pub short_take : (n k : ℕ) (l : List ℕ) → k ≡ short_of n (length l) → take k l ≡ lend n l
@@ -37,15 +35,8 @@ short_take n k l e =
     by_test (leb n (length l)) (λ t. let w : k ≡ n = e ∙ rw t refl in rw w refl)
     (λ t. let w : k ≡ length l = e ∙ rw t refl in take_all k l (omega arith) ∙ sym (take_all n l (omega (arith, leb-false n (length l) t))))
 
-pub front_le : (n k : ℕ) (l : List ℕ) → k ≡ short_of n (length l) → k ≤ length l
+front_le : (n k : ℕ) (l : List ℕ) → k ≡ short_of n (length l) → k ≤ length l
 front_le n k l e = omega (arith, short_le n (length l))
-
-pub front_size : (n k : ℕ) (l : List ℕ) → k ≡ short_of n (length l) → k ≡ length (take k l)
-front_size n k l e = sym (length-take-le k l (front_le n k l e))
-
--- a part of the lent front lies in the array where it lies in the front
-pub itself_in : {front : List ℕ} {v : View} {src lent r : Bor (List ℕ)} → Itself (record { start = 0; bytes = front }) src lent → Itself v lent r → Itself v src r
-itself_in p q = record { holds = q.holds; block = q.block ∙ p.block; offset = omega (arith, p.offset, q.offset) }
 
 -- what a call left of the first k of old: the array is that in front, and behind it as it was
 module _ (n k : ℕ) (old left : List ℕ) (e : k ≡ short_of n (length old)) (h : length left ≡ length (take k old)) where
@@ -69,13 +60,6 @@ module _ (n k : ℕ) (old left : List ℕ) (e : k ≡ short_of n (length old)) (
       let far : length old < n = leb-false n (length old) t in
       drop_of_length-le (left ++ drop k old) {i = n} (simp (length-append, length-drop) (omega (arith, size)))
       ∙ sym (drop_of_length-le old {i = n} (omega arith)))
-
--- a fact of some lists, at lists that are equal to them
-pub moved2 : (P : List ℕ → List ℕ → Type 0) {a a' b b' : List ℕ} → a ≡ a' → b ≡ b' → P a b → P a' b'
-moved2 P {a} {a'} {b} {b'} p q h = subst (λ (x : List ℕ). P x b') p (subst (λ (y : List ℕ). P a y) q h)
-
-pub moved4 : (P : List ℕ → List ℕ → List ℕ → List ℕ → Type 0) {a a' b b' c c' d d' : List ℕ} → a ≡ a' → b ≡ b' → c ≡ c' → d ≡ d' → P a b c d → P a' b' c' d'
-moved4 P {a} {a'} {b} {b'} {c} {c'} {d} {d'} p q r s h = moved2 (λ x y. P x y c' d') p q (moved2 (λ z w. P a b z w) r s h)
 
 -- ---- a list that a loop fills by a rule
 

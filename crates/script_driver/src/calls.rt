@@ -9,7 +9,7 @@ ghost use Rattle.script_driver.specs.Arrays.{pools_held, pools_are, payload_is};
 ghost use Rattle.script_driver.specs.Run.{unit_is};
 ghost use Rattle.script_driver.specs.Calls.{LentAdd, LentTurn, LentReply, LentWrite, ListingDone};
 
-use crate::arrays::{front, lent, put_entries, Arrays};
+use crate::arrays::{Arrays, front, lent, put_entries};
 use crate::run::Run;
 use answers::reply_answer::ReplyAnswer;
 use answers::turn::TurnAnswer;

@@ -2,11 +2,13 @@
 ghost use Rattle.std.specs.Prelude.{◌≡◌};
 ghost use Rattle.script_driver.specs.Pieces.{line_end, Appended, is_unfinished};
 
-// How much of a line came, and whether it is too long.
+// What came of a line, at the front of a lent array.
 // The mark stands beside the count, and is no `Option`, since what fits stays after a piece that does not: `Appended`.
-#[derive(Clone, Copy)]
-pub struct Partial {
-    // Bytes of the line that came so far and fit, at the front of the line's array.
+#[derive(Drop)]
+pub struct Partial<'a> {
+    // The whole array, which goes on behind what came.
+    pub line: &'a mut [u8],
+    // Bytes of the line that came so far and fit.
     pub filled: usize,
     // Whether a piece did not fit: the line is then no call.
     pub long: bool,
@@ -21,23 +23,22 @@ pub fn line_end(s: &[u8], from: usize) -> usize
         .unwrap_or(from.max(s.len()))
 }
 
-// A piece of a line goes behind what came of it; a piece that does not fit makes the line too long.
-pub fn append(p: Partial, piece: &[u8], line: &mut [u8]) -> Partial
-    ensures { Appended p piece.now line.old line.new result }
-{
-    if parts::copy_at(line, p.filled, piece.len(), piece) {
-        Partial {
-            filled: p.filled + piece.len(),
-            ..p
+impl Partial<'_> {
+    // A piece of a line goes behind what came of it; a piece that does not fit makes the line too long.
+    pub fn append(&mut self, piece: &[u8])
+        ensures { Appended piece.now self.old self.new }
+    {
+        if parts::copy_at(self.line, self.filled, piece.len(), piece) {
+            self.filled += piece.len();
+        } else {
+            self.long = true;
         }
-    } else {
-        Partial { long: true, ..p }
     }
-}
 
-// Whether something of a line came that did not end.
-pub fn unfinished(p: Partial) -> bool
-    ensures { result ≡ is_unfinished p }
-{
-    p.long || 0 < p.filled
+    // Whether something of a line came that did not end.
+    pub fn unfinished(&self) -> bool
+        ensures { result ≡ is_unfinished self.now }
+    {
+        self.long || 0 < self.filled
+    }
 }

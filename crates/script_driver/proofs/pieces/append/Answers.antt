@@ -1,9 +1,0 @@
--- `append` meets its contract, by the contract of the copy.
-use mathlib.Core.Path.{sym, ◌∙◌}
-use native.Mathlib.Omega.{arith}
-use lib.ListN.{length}
-use Rattle.parts.proofs.Laws.{room_old}
-use Rattle.script_driver.proofs.pieces.append.Goals as goal
-
-pub overflow_add-result : goal.overflow_add-result
-overflow_add-result c = omega (arith, room_old c.args.p.filled (length c.args.piece.now) c.args.piece.now c.args.line.now (sym c.copy_at.ensures.answer ∙ c.if-copy_at.true))
