@@ -1,6 +1,6 @@
 -- A handle that is refused or not, where a view lies, and an output write.
 -- The idea: the handle's number is 0 exactly where its slot is occupied, and a view's length is its range's where that lies in the pool.
-use mathlib.Core.Path.{◌≡◌, refl, sym, ap, ◌∙◌}
+use mathlib.Core.Path.{◌≡◌, refl, sym, ◌∙◌}
 use mathlib.Core.Bool.{Bool, true, false, not, cond}
 use mathlib.Core.List.{List, [], ◌∷◌}
 use Prim.Native.Nat.{ℕ, ◌+◌}
@@ -9,14 +9,12 @@ use lib.ListN.{length}
 use lib.Dec.{leb, eqb}
 use borrow.Author.Tests.{ne_eqb}
 use denote.Ref.{Bor}
-use Rattle.std.specs.Prelude.{Result, Ok, Err}
+use Rattle.std.specs.Prelude.{Ok, Err}
 use Rattle.parts.specs.Parts.{inside, View, view_at, Itself, put_in}
 use Rattle.parts.proofs.Laws.{length_part, inside-leb}
 use Rattle.refusals.specs.declared.Refusal.{Refusal}
-use Rattle.refusals.specs.Table.{lent_row, handle_row, write_row, said, or_else, refusal_number, outcome, given}
-use Rattle.refusals.proofs.Laws.{both, in-turn, done_is, told}
-use Rattle.peripheral.specs.declared.record.Peripheral.{Peripheral}
-use Rattle.peripheral.specs.Record.{blank}
+use Rattle.refusals.specs.Table.{lent_row, write_row, said, or_else, outcome, given}
+use Rattle.refusals.proofs.Laws.{both}
 use Rattle.peripheral_set.specs.declared.PeripheralHandle.{PeripheralHandle}
 use Rattle.peripheral_set.specs.Marks.{is_occupied, handle_refusal}
 use Rattle.master.specs.declared.unit.DpMaster.{DpMaster}

@@ -1,6 +1,6 @@
 -- What a turn sends, its payload, and its answer.
 -- From 01, "One turn", with what a refusal answers from "Refusal numbers".
-use Rattle.std.specs.Prelude.{◌≡◌, ℕ, Bool, false, cond, List, [], length, Option, Some, None}
+use Rattle.std.specs.Prelude.{◌≡◌, ℕ, Bool, false, List, [], length, Option, Some, None}
 use Rattle.parts.specs.Parts.{put_in}
 use Rattle.fdl.specs.declared.parameters.Parameters.{Parameters}
 use Rattle.payloads.specs.Request.{control_header}

@@ -12,6 +12,7 @@ use peripheral_set::{PeripheralHandle, SLOTS};
 use station::state::PeripheralEvent;
 
 // The answer of a reply: the event with its handle.
+// The number stands beside the rest, and no `Err`, since a refused reply answers no event and no handle too: document 01, and `refused_reply`.
 #[derive(Clone, Copy)]
 pub struct ReplyAnswer {
     // Number of the refusal, 2, 9 or 10; 0 when done.

@@ -12,6 +12,7 @@ use peripheral_set::PeripheralHandle;
 use station::state::PeripheralEvent;
 
 // What a turn sent.
+// Three outcomes, of which none is a failure: no `Option`.
 #[derive(Clone, Copy)]
 pub enum Transmission {
     // No telegram, and the payload buffer is as it was.
@@ -39,6 +40,7 @@ pub struct Filled {
 }
 
 // The answer of a turn: the first Offline event with its handle, and a bit for every slot reported Offline.
+// The number stands beside the rest, and no `Err`, since a refused turn answers length 0 and no event too: document 01, and `refused_turn`.
 #[derive(Clone, Copy)]
 pub struct TurnAnswer {
     // Number of the refusal, 2 or 3; 0 when done.

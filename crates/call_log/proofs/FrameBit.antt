@@ -10,6 +10,7 @@ use lib.Dec.{eqb}
 use borrow.Author.Tests.{eqb-true, eqb-false, eq-eqb, ne_eqb}
 use Rattle.parts.proofs.Laws.{by_test}
 use mathlib.Core.Option.{some, none-ne-some, some-injective}
+use Rattle.std.specs.Prelude.{Option as CodeOption, Some, None}
 use Rattle.fdl.specs.Bits.{cycled, bit_number, bit_of}
 use Rattle.fdl.specs.declared.telegram.FrameCountBit.{FrameCountBit}
 use Rattle.fdl.specs.declared.telegram.FrameCountBit.TheVariants.{First, Low, High, Inactive}
@@ -19,7 +20,6 @@ use Rattle.station.specs.declared.record.Station.{Station}
 use Rattle.station.specs.declared.heard.Heard.{Heard}
 use Rattle.station.specs.Record.{with_diagnosis}
 use Rattle.cycle.specs.declared.seen.Sent.{Sent}
-use Rattle.cycle.specs.declared.seen.Sent.TheVariants.{Nobody, To}
 use Rattle.cycle.specs.declared.state.Step.{Step}
 use Rattle.cycle.specs.declared.state.Step.TheVariants.{Halt, Control, Back, Visits}
 use Rattle.cycle.specs.State.{after_turn}
@@ -105,15 +105,15 @@ bit_told = fact_holds (λ limit x l. bit_of x.balance.station.fcb ≡ frame_bit 
 -- ---- on the wire
 
 module _ (w : World) (l : List Entry) (i : Inv w l) (time s : ℕ) where
-  sent_step : (step : Step) (sent : Sent) → (swept_by step w.unit).seen.sent ≡ sent → Valid (state_is (after_turn step sent time w.unit.state) (balances_are (swept_by step w.unit).balances w.unit))
+  sent_step : (step : Step) (sent : CodeOption Sent) → (swept_by step w.unit).seen.sent ≡ sent → Valid (state_is (after_turn step sent time w.unit.state) (balances_are (swept_by step w.unit).balances w.unit))
       → let a = transmission_of step sent (asked_in (swept_by step w.unit)) w.unit.parameters in slot_asked a ≡ some s → bit_sent a ≡ frame_bit (slot_log s l)
   sent_step Halt sent e v q = absurd (none-ne-some s q)
   sent_step Control sent e v q = absurd (none-ne-some s q)
   sent_step Back sent e v q = absurd (none-ne-some s q)
-  sent_step Visits Nobody e v q = absurd (none-ne-some s q)
-  sent_step Visits (To t k) e v q =
-      let o = sent_there w l i _ time t k v in
-      rw (asked_is w l i t k e o, ← some-injective t s q) (always (bit_fact _) (i.lives t o))
+  sent_step Visits None e v q = absurd (none-ne-some s q)
+  sent_step Visits (Some x) e v q =
+      let o = sent_there w l i _ time x.slot x.kind v in
+      rw (asked_is w l i x.slot x.kind e o, ← some-injective x.slot s q) (always (bit_fact _) (i.lives x.slot o))
 
   sent_turn : (high : Bool) (ns nq : ℕ) (buf : List ℕ) (b : Bool)
       → let o = turn_step b (turn_number time ns nq buf w) (step_at time high w.unit) (swept_by (step_at time high w.unit) w.unit) (turn_payload_at time high ns nq w) time buf w in

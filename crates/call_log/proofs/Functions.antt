@@ -3,27 +3,28 @@
 use mathlib.Core.Path.{◌≡◌, refl, sym, ◌∙◌, ap}
 use Prim.Native.Nat.{ℕ, ◌+◌}
 use native.Mathlib.Omega.{arith}
-use mathlib.Core.Bool.{Bool}
+use mathlib.Core.Bool.{Bool, true}
 use mathlib.Core.List.{List, []}
 use lib.ListN.{length}
+use Rattle.std.specs.Prelude.{Result, Ok, Err}
 use Rattle.parts.specs.Parts.{splice}
+use Rattle.refusals.specs.declared.Refusal.{Refusal}
+use Rattle.refusals.specs.Table.{Row, first_of, outcome, number_of}
+use Rattle.refusals.proofs.Laws.{known, done_is, told}
 use Rattle.fdl.specs.declared.telegram.Telegram.{Telegram}
 use Rattle.peripheral_set.specs.declared.PeripheralHandle.{PeripheralHandle}
 use Rattle.cycle.specs.declared.state.OperatingState.{OperatingState}
 use Rattle.cycle.specs.declared.state.OperatingState.TheVariants.{Stop, Clear, Operate}
 use Rattle.cycle.specs.State.{entered}
 use Rattle.master.specs.declared.unit.DpMaster.{DpMaster}
-use Rattle.master.specs.declared.unit.Done.{Done}
+use Rattle.master.specs.declared.unit.Created.{Created}
 use Rattle.master.specs.declared.add.Addition.{Addition}
-use Rattle.master.specs.declared.add.Added.{Added}
-use Rattle.master.specs.declared.turn.Turn.{Turn}
-use Rattle.master.specs.declared.receive.Answered.{Answered}
-use Rattle.master.specs.Unit.{state_is}
-use Rattle.master.specs.Add.{Adding}
-use Rattle.master.specs.Turn.{Turned}
-use Rattle.master.specs.Receive.{Received}
+use Rattle.master.specs.Unit.{done_of, state_is}
+use Rattle.master.specs.Add.{Added, added_of, Adding}
+use Rattle.master.specs.Turn.{Turn, Turned}
+use Rattle.master.specs.Receive.{Answered, Received}
 use Rattle.master.specs.Handle.{reset_done, wish_done}
-use Rattle.access.specs.Lookup.{input_number, output_number, inputs_seen, outputs_seen, OutputsWritten}
+use Rattle.access.specs.Lookup.{pooled_rows, input_number, output_number, inputs_seen, outputs_seen, OutputsWritten}
 use Rattle.master.specs.Pools.{Pools, pools_of, lend, back}
 use Rattle.call_log.specs.Calls.{World, Call, Outcome, enter, hand, number, unit_is, outputs_are, step}
 use Rattle.call_log.specs.Entries.{Entry, slot_log}
@@ -62,22 +63,31 @@ handing w h nq k bytes m o from to seen n em eo es et ek eb en =
     let start : k ≡ (outputs_seen m h o).start = omega (arith, et, ek) in
     rw en (hand_tied w h nq k bytes (rw (em, eo) start) (eb ∙ rw (em, eo) (ap length es)))
 
+-- ---- what a call answers, by its number
+
+numbered_so : (rows : List Row) → known rows ≡ true → (r : Result Unit Refusal) → r ≡ outcome (first_of rows) → number_of r ≡ first_of rows
+numbered_so rows k (Ok v) e = sym (done_is (first_of rows) (sym e))
+numbered_so rows k (Err x) e = (told rows k (sym e)).0
+
 -- ---- the calls
 
 pub allowed_step : AllowedIsStep
 allowed_step w _ _ (by_add κs a z e c lent em es ei eo ed) =
-    add_tied w _ _ _ lent _ z (adding a.0 w.unit _ _ _ _ _ _ _ _ _ _ _ _ z em es ei eo ed c)
-allowed_step w _ _ (by_enter_state κs a z e c em) = entering w a.1.0 z a.0 em c
-allowed_step w _ _ (by_enter_stop κs a z e c em) = entering w Stop z a.0 em c
-allowed_step w _ _ (by_enter_clear κs a z e c em) = entering w Clear z a.0 em c
-allowed_step w _ _ (by_enter_operate κs a z e c em) = entering w Operate z a.0 em c
-allowed_step w _ _ (by_transmit_telegram κs a z e c ns nq em es eo) = turn_tied w a.1.0 a.1.1.0 ns nq _ _ z (turning a.0 w.unit _ _ _ _ _ _ _ _ z em es eo c)
-allowed_step w _ _ (by_receive_reply κs a z e c ni nd em ei ed) = reply_tied w a.1.0 a.1.1.0 _ ni nd _ _ z (receiving a.0 w.unit _ _ _ _ _ _ _ _ _ z em ei ed c)
-allowed_step w _ _ (by_reset_address κs a z e c em) = reset_tied w a.1.0 a.1.1.0 z (c ∙ ap (λ (m : DpMaster). reset_done m a.1.0 a.1.1.0) (sym em))
-allowed_step w _ _ (by_request_diagnostics κs a z e c em) = wish_tied w a.1.0 z (c ∙ ap (λ (m : DpMaster). wish_done m a.1.0) (sym em))
+    let r = added_of z e.0.now in add_tied w _ _ _ lent _ r (adding a.0.now w.unit _ _ _ _ _ _ _ _ _ _ _ _ r em es ei eo ed c)
+allowed_step w _ _ (by_enter_state κs a z e c em) = entering w a.1.0 e.0.now a.0.now em c
+allowed_step w _ _ (by_enter_stop κs a z e c em) = entering w Stop e.0.now a.0.now em c
+allowed_step w _ _ (by_enter_clear κs a z e c em) = entering w Clear e.0.now a.0.now em c
+allowed_step w _ _ (by_enter_operate κs a z e c em) = entering w Operate e.0.now a.0.now em c
+allowed_step w _ _ (by_transmit_telegram κs a z e c ns nq em es eo) =
+    let r : Turn = record { master = e.0.now; answer = z } in turn_tied w a.1.0 a.1.1.0 ns nq _ _ r (turning a.0.now w.unit _ _ _ _ _ _ _ _ r em es eo c)
+allowed_step w _ _ (by_receive_reply κs a z e c ni nd em ei ed) =
+    let r : Answered = record { master = e.0.now; answer = z } in reply_tied w a.1.0 a.1.1.0 _ ni nd _ _ r (receiving a.0.now w.unit _ _ _ _ _ _ _ _ _ r em ei ed c)
+allowed_step w _ _ (by_reset_address κs a z e c em) = reset_tied w a.1.0 a.1.1.0 (done_of z e.0.now) (c ∙ ap (λ (m : DpMaster). reset_done m a.1.0 a.1.1.0) (sym em))
+allowed_step w _ _ (by_request_diagnostics κs a z e c em) = wish_tied w a.1.0 (done_of z e.0.now) (c ∙ ap (λ (m : DpMaster). wish_done m a.1.0) (sym em))
 allowed_step w _ _ (by_pi_q_mut κs a z e c λs b n f d nq k bytes em en eh eo ep ek eb) =
-    handing w a.1.0 nq k bytes a.0 a.1.1.0.now a.1.1.0.ref_ptr.1 z.ref_ptr.1 z.now n em eo c.holds c.offset ek eb (rw (en, ep, ← eh) d)
-allowed_step w _ _ (by_write_outputs κs a z e c nq em eo) = write_tied w a.1.0 _ nq _ z (writing a.0 w.unit _ _ _ _ _ z em eo c)
+    handing w a.1.0 nq k bytes a.0.now a.1.1.0.now a.1.1.0.ref_ptr.1 z.ref_ptr.1 z.now (number_of n) em eo c.holds c.offset ek eb
+    (numbered_so (pooled_rows (length (lend nq w.pools.outputs)) w.unit.parameters.output_pool a.1.0 w.unit.occupied) refl n (rw (en, ep, ← eh) d))
+allowed_step w _ _ (by_write_outputs κs a z e c nq em eo) = write_tied w a.1.0 _ nq _ (number_of z) (writing a.0.now w.unit _ _ _ _ _ (number_of z) em eo c)
 
 -- ---- what `pi_i` hands out
 
@@ -85,7 +95,7 @@ handed : (m n : DpMaster) (h : PeripheralHandle) (i j bytes : List ℕ) → n �
 handed m n h i j bytes em ei c = rw (em, ei) c
 
 read_of : (w : World) (l : List Entry) (h : PeripheralHandle) (lent bytes : List ℕ) → Inv w l → Handed w h lent bytes → input_number w.unit h lent ≡ 0 → bytes ≡ image_of (slot_log h.slot l)
-read_of w l _ _ _ i (by_pi_i κs a z e c ni em ei) q = handed a.0 w.unit a.1.0 _ _ z.now em ei c.holds ∙ read_by w l i a.1.0 ni q
+read_of w l _ _ _ i (by_pi_i κs a z e c ni em ei) q = handed a.0.now w.unit a.1.0 _ _ z.now em ei c.holds ∙ read_by w l i a.1.0 ni q
 
 -- ---- one call after the other
 
@@ -93,7 +103,7 @@ next-call : (x : Run) (w : World) (l : List Entry) (c : Call) (o : Outcome) → 
 next-call x w l c o e s = rw (e, s) refl
 
 pub made-run : MadeIsRun
-made-run _ _ _ _ _ (by_new κs a z e c pools) = ap (λ (d : Done). record { world = record { unit = d.master; pools = pools }; log = [] }) (sym c)
+made-run _ _ _ _ _ (by_new κs a z e c pools) = ap (λ (d : Created). record { world = record { unit = d.master; pools = pools }; log = [] }) (sym c)
 made-run _ _ _ _ _ (then u pools cs w l m c o s) = next-call (run u pools cs) w l c o (made-run u pools cs w l m) (allowed_step w c o s)
 
 pub read_told : ReadTold

@@ -29,7 +29,7 @@ use Rattle.station.proofs.Rows.{coded, ReplyRow, reply_row}
 use Rattle.peripheral.specs.declared.record.Peripheral.{Peripheral}
 use Rattle.peripheral.specs.Record.{reset_of, station_is}
 use Rattle.peripheral.specs.Visit.{visit_action, visited_by}
-use Rattle.peripheral.specs.Response.{payload_part, station_diagnosed, fits_image, answer_to}
+use Rattle.peripheral.specs.Response.{payload_stored, station_diagnosed, fits_image, answer_to}
 use Rattle.peripheral.proofs.Laws.{answer_heard}
 use Rattle.valid.specs.Valid.{fits, Fits}
 use Rattle.valid.proofs.Stations.{action_fits, fits-due}
@@ -141,7 +141,7 @@ status_is n Token = refl
 status_is n RequestTelegram = refl
 
 module _ (t : Telegram) (p : Peripheral) (payload : List ℕ) (inputs diags : ℕ) where
-  pub replied_row : (k : Request) → Fits p.station (kind_number k) → RowOf p.station t payload (payload_part p payload diags).len k (answer_to (judged_as k p.station) t p payload inputs diags)
+  pub replied_row : (k : Request) → Fits p.station (kind_number k) → RowOf p.station t payload (payload_stored p payload diags) k (answer_to (judged_as k p.station) t p payload inputs diags)
   unfolding station_diagnosed
   replied_row k f =
       let e = fits-judged k (state_of p.station.state) p.station.diag_needed f in
@@ -180,7 +180,7 @@ module _ {limit : ℕ} {x : Slot} {l : List Note} {q : Request} (v : Lives limit
 
   -- the request that is open is answered
   pub replies : (t : Telegram) (payload : List ℕ) (inputs diags : ℕ) → let h = answer_to (judged_as q x.balance.station) t x.balance payload inputs diags in Lives limit (heard_slot t payload h x) (got t payload h.event ∷ l)
-  replies t payload inputs diags = gets v o (payload_part x.balance payload diags).len (replied_row t x.balance payload inputs diags q open_is.1)
+  replies t payload inputs diags = gets v o (payload_stored x.balance payload diags) (replied_row t x.balance payload inputs diags q open_is.1)
 
 -- ---- a fact of slots, as its laws; each may use what is known of the slot before
 

@@ -17,16 +17,12 @@ use Rattle.cycle.specs.declared.refusal.Lent.{Lent}
 use Rattle.cycle.specs.declared.state.OperatingState.{OperatingState}
 use Rattle.cycle.specs.State.{entered}
 use Rattle.master.specs.declared.unit.DpMaster.{DpMaster}
-use Rattle.master.specs.declared.unit.Done.{Done}
 use Rattle.master.specs.declared.add.Addition.{Addition}
-use Rattle.master.specs.declared.add.Added.{Added}
-use Rattle.master.specs.declared.turn.Turn.{Turn}
-use Rattle.master.specs.declared.receive.Answered.{Answered}
-use Rattle.master.specs.Unit.{state_is}
+use Rattle.master.specs.Unit.{Done, state_is}
 use Rattle.master.specs.Pools.{Pools, lend, back, lend_all, back_all}
-use Rattle.master.specs.Add.{Adding}
-use Rattle.master.specs.Turn.{Turned}
-use Rattle.master.specs.Receive.{Received}
+use Rattle.master.specs.Add.{Added, Adding}
+use Rattle.master.specs.Turn.{Turn, Turned}
+use Rattle.master.specs.Receive.{Answered, Received}
 use Rattle.master.specs.Handle.{reset_done, wish_done}
 use Rattle.access.specs.Lookup.{found_in, outputs_seen, OutputsWritten}
 use Rattle.call_log.specs.Calls.{World, add, enter, turn, reply, reset, wish, write, hand, number, added, turned, replied, unit_is, outputs_are, hand_number, step}

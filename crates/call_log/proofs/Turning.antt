@@ -5,6 +5,7 @@ use mathlib.Core.Bool.{Bool, true, false, not, ◌&&◌, ◌||◌, false≢true,
 use mathlib.Core.Logic.{⊎_elim}
 use mathlib.Core.List.{List, ◌∷◌}
 use mathlib.Core.Option.{Option, none, some, none-ne-some, some-injective}
+use Rattle.std.specs.Prelude.{Option as CodeOption, Some, None}
 use Prim.Native.Nat.{ℕ, ◌≤◌, ◌-◌, ◌<◌}
 use native.Mathlib.Omega.{arith}
 use lib.ListN.{get_or}
@@ -25,14 +26,13 @@ use Rattle.peripheral.specs.Visit.{visit_action, visited_by}
 use Rattle.peripheral_set.specs.Marks.{slots}
 use Rattle.cycle.specs.declared.seen.Seen.{Seen}
 use Rattle.cycle.specs.declared.seen.Sent.{Sent}
-use Rattle.cycle.specs.declared.seen.Sent.TheVariants.{Nobody, To}
 use Rattle.cycle.specs.declared.state.DpMasterState.{DpMasterState}
 use Rattle.cycle.specs.declared.state.OperatingState.{OperatingState}
 use Rattle.cycle.specs.declared.state.OperatingState.TheVariants.{Stop, Clear, Operate}
 use Rattle.cycle.specs.declared.state.Step.{Step}
 use Rattle.cycle.specs.declared.state.Step.TheVariants.{Halt, Control, Back, Visits}
-use Rattle.cycle.specs.Seen.{nothing_seen, idle}
-use Rattle.master.specs.Unit.{state_is, balances_are, balance_at}
+use Rattle.cycle.specs.Seen.{nothing_seen, idle, first_index}
+use Rattle.master.specs.Unit.{state_is, balances_are}
 use Rattle.master.proofs.Bits.{bit, zero_bit}
 use Rattle.valid.proofs.Balances.{marked_below}
 use Rattle.call_log.specs.Notes.{slot_asked, Note, went_offline, asked, is_offline, bit_set, reported_offline, note_asked}
@@ -40,7 +40,7 @@ use Rattle.call_log.specs.Entries.{up_to, reached, Entry, Place, target, slot_lo
 use Rattle.call_log.specs.Words.{is_kind, due_of, asks_data}
 use Rattle.call_log.specs.Promises.{MaskEvent}
 use Rattle.payloads.specs.Request.{kind_number}
-use Rattle.call_log.proofs.Visits.{kind_sent, went_to, Swung, all_visits, Lowest, Firsts, all_first, empty-bit}
+use Rattle.call_log.proofs.Visits.{sent_to, kind_sent, went_to, Swung, all_visits, Lowest, Firsts, all_first, empty-bit}
 use Rattle.cycle.specs.State.{timed, closed, operating_of, control_due, step_of, start_of, after_visits, after_turn}
 use Rattle.answers.specs.Turn.{transmission_of, visits_transmit, completes_of, offline_event, handle_of}
 use Rattle.master.specs.Turn.{sweep_from, step_at, swept_by, unit_turned, asked_in, turn_answer}
@@ -55,32 +55,29 @@ use Rattle.call_log.proofs.Units.{open_at, LivesAt, inputs_lent, none_open, Inv,
 
 -- what the event says of the mask
 module _ (seen : Seen) (f : Firsts slots seen) where
-  not_none : Lowest slots seen → eqb seen.first 255 ≡ false
-  not_none k = ne_eqb seen.first 255 (λ e. omega (arith, k.below))
-
   not_empty : Lowest slots seen → eqb seen.mask 0 ≡ false
-  not_empty k = ne_eqb seen.mask 0 (λ e. let z : bit seen.first seen.mask ≡ 0 = rw e (zero_bit seen.first) in omega (arith, k.own))
+  not_empty k = ne_eqb seen.mask 0 (λ e. let z : bit k.first seen.mask ≡ 0 = rw e (zero_bit k.first) in omega (arith, k.own))
 
   fell : T (is_offline (offline_event seen.first)) → Lowest slots seen
   fell t = ⊎_elim (λ e. absurd (rw e.0 at t)) (λ k. k) f.either
 
   event_is : offline_event seen.first ≡ cond (eqb seen.mask 0) NoEvent WentOffline
-  event_is = ⊎_elim (λ e. rw (e.0, e.1) refl) (λ k. rw (not_none k, not_empty k) refl) f.either
+  event_is = ⊎_elim (λ e. rw (e.0, e.1) refl) (λ k. rw (k.is, not_empty k) refl) f.either
 
   event-own : (address : ℕ) → T (is_offline (offline_event seen.first)) → T (bit_set (handle_of seen.first address).slot seen.mask)
-  event-own address t = let k = fell t in rw (not_none k, k.own) tt
+  event-own address t = let k = fell t in rw (k.is, k.own) tt
 
   event-lowest : (address : ℕ) → T (is_offline (offline_event seen.first)) → (s : ℕ) → s < (handle_of seen.first address).slot → T (not (bit_set s seen.mask))
-  event-lowest address t s h = let k = fell t in rw (k.lower s (rw (not_none k) at h)) tt
+  event-lowest address t s h = let k = fell t in rw (k.lower s (rw k.is at h)) tt
 
   -- by event or mask bit is by mask bit: the event's slot is in the mask
   reported_is : (address s : ℕ) → ((is_offline (offline_event seen.first) && eqb s (handle_of seen.first address).slot) || bit_set s seen.mask) ≡ bit_set s seen.mask
   reported_is address s =
       ⊎_elim (λ e. rw e.0 refl)
       (λ k.
-      rw (not_none k)
-      (by_test (eqb s seen.first)
-      (λ q. let z : s ≡ seen.first = eqb-true s seen.first q in rw (q, z, k.own) refl)
+      rw k.is
+      (by_test (eqb s k.first)
+      (λ q. let z : s ≡ k.first = eqb-true s k.first q in rw (q, z, k.own) refl)
       (λ q. rw q refl)))
       f.either
 
@@ -100,39 +97,39 @@ abbrev note_kind : Option Request → List Note → List Note
 note_kind none l = l
 note_kind (some k) l = asked k ∷ l
 
-visits_noted : (sent : Sent) (p : Peripheral) (u : Parameters) (s : ℕ) (l : List Note) → note_asked s (visits_transmit sent p u) l ≡ note_kind (kind_sent s sent) l
-visits_noted Nobody p u s l = refl
-visits_noted (To t k) p u s l = by_test (eqb s t) (λ e. rw e refl) (λ e. rw e refl)
+visits_noted : (sent : CodeOption Sent) (p : Peripheral) (u : Parameters) (s : ℕ) (l : List Note) → note_asked s (visits_transmit sent p u) l ≡ note_kind (kind_sent s sent) l
+visits_noted None p u s l = refl
+visits_noted (Some x) p u s l = by_test (eqb s x.slot) (λ e. rw e refl) (λ e. rw e refl)
 
-visits_went : (sent : Sent) (p : Peripheral) (u : Parameters) (s : ℕ) → up_to s (idle sent) (visits_transmit sent p u) ≡ went_to s sent
-visits_went Nobody p u s = refl
-visits_went (To t k) p u s = refl
+visits_went : (sent : CodeOption Sent) (p : Peripheral) (u : Parameters) (s : ℕ) → up_to s (idle sent) (visits_transmit sent p u) ≡ went_to s sent
+visits_went None p u s = refl
+visits_went (Some x) p u s = refl
 
-visits_asked : (sent : Sent) (p : Peripheral) (u : Parameters) (s : ℕ) → asks_data s (visits_transmit sent p u) ≡ is_kind Data (kind_sent s sent)
-visits_asked Nobody p u s = refl
-visits_asked (To t k) p u s = by_test (eqb s t) (λ e. rw e refl) (λ e. rw e refl)
+visits_asked : (sent : CodeOption Sent) (p : Peripheral) (u : Parameters) (s : ℕ) → asks_data s (visits_transmit sent p u) ≡ is_kind Data (kind_sent s sent)
+visits_asked None p u s = refl
+visits_asked (Some x) p u s = by_test (eqb s x.slot) (λ e. rw e refl) (λ e. rw e refl)
 
 -- ---- the place
 
-place-turned : (o : OperatingState) (due past : Bool) (sent : Sent) (p : Peripheral) (u : Parameters) (time : ℕ) (s : DpMasterState)
+place-turned : (o : OperatingState) (due past : Bool) (sent : CodeOption Sent) (p : Peripheral) (u : Parameters) (time : ℕ) (s : DpMasterState)
     → ◌≡◌ {A = Place} (record { slot = (after_turn (step_of o due past) sent time s).slot; past = (after_turn (step_of o due past) sent time s).completed })
     (place_turned o (completes_of (step_of o due past) sent) (transmission_of (step_of o due past) sent p u) (record { slot = s.slot; past = s.completed }))
 place-turned Stop due past sent p u time s = refl
 place-turned Clear true past sent p u time s = refl
 place-turned Clear false true sent p u time s = refl
-place-turned Clear false false Nobody p u time s = refl
-place-turned Clear false false (To t k) p u time s = refl
+place-turned Clear false false None p u time s = refl
+place-turned Clear false false (Some x) p u time s = refl
 place-turned Operate true past sent p u time s = refl
 place-turned Operate false true sent p u time s = refl
-place-turned Operate false false Nobody p u time s = refl
-place-turned Operate false false (To t k) p u time s = refl
+place-turned Operate false false None p u time s = refl
+place-turned Operate false false (Some x) p u time s = refl
 
-mode-kept : (step : Step) (sent : Sent) (time : ℕ) (s : DpMasterState) → (after_turn step sent time s).operating ≡ s.operating
+mode-kept : (step : Step) (sent : CodeOption Sent) (time : ℕ) (s : DpMasterState) → (after_turn step sent time s).operating ≡ s.operating
 mode-kept Halt sent time s = refl
 mode-kept Control sent time s = refl
 mode-kept Back sent time s = refl
-mode-kept Visits Nobody time s = refl
-mode-kept Visits (To t k) time s = refl
+mode-kept Visits None time s = refl
+mode-kept Visits (Some x) time s = refl
 
 -- ---- one slot
 
@@ -155,12 +152,15 @@ sent_is Skips p k true e = absurd (none-ne-some k e)
 sent_is v p k false e = absurd (none-ne-some k e)
 
 -- the request that is open afterwards
-sent_open : (sent : Sent) (time : ℕ) (st : DpMasterState) (s : ℕ) → open_at (after_visits sent (closed (timed time st))) s ≡ kind_sent s sent
-sent_open Nobody time st s = none_open (eqb s 0)
-sent_open (To t Diagnosis) time st s = refl
-sent_open (To t ParameterRequest) time st s = refl
-sent_open (To t Configuration) time st s = refl
-sent_open (To t Data) time st s = refl
+sent_open : (sent : CodeOption Sent) (time : ℕ) (st : DpMasterState) (s : ℕ) → open_at (after_visits sent (closed (timed time st))) s ≡ kind_sent s sent
+sent_open None time st s = none_open (eqb s 0)
+sent_open (Some x) time st s = by_kind x.kind
+  where
+    by_kind : (k : Request) → open_at (after_visits (sent_to x.slot k) (closed (timed time st))) s ≡ kind_sent s (sent_to x.slot k)
+    by_kind Diagnosis = refl
+    by_kind ParameterRequest = refl
+    by_kind Configuration = refl
+    by_kind Data = refl
 
 -- ---- the turn
 
@@ -195,7 +195,7 @@ module _ (w : World) (l : List Entry) (i : Inv w l) where
     unfolding turn_answer
     reported s o =
         let x = swept_by step w.unit in
-        reported_is x.seen (firsts step) (balance_at x.balances x.seen.first).station.address s
+        reported_is x.seen (firsts step) (get_or x.balances (first_index x.seen.first) blank).station.address s
         ∙ (rw (swung step s o).mask (one_or_none ((swung step s o).visited && drops (visit_action w.unit.parameters.max_retry_limit (balance w.unit s)))))
 
     sent_noted : (s : ℕ) (o : occupied w.unit s) (n : List Note)
@@ -216,24 +216,24 @@ module _ (w : World) (l : List Entry) (i : Inv w l) where
   steps_open Back time s = none_open (eqb s 0)
   steps_open Visits time s = sent_open (swept_by Visits w.unit).seen.sent time w.unit.state s
 
-  kind_here : (t : ℕ) (k : Request) (sent : Sent) (r : Option Request) → sent ≡ To t k → kind_sent t sent ≡ r → some k ≡ r
-  kind_here t k sent r e q = sym (subst (λ (y : Sent). kind_sent t y ≡ some k) (sym e) (rw (eq-eqb t t refl) refl)) ∙ q
+  kind_here : (t : ℕ) (k : Request) (sent : CodeOption Sent) (r : Option Request) → sent ≡ sent_to t k → kind_sent t sent ≡ r → some k ≡ r
+  kind_here t k sent r e q = sym (subst (λ (y : CodeOption Sent). kind_sent t y ≡ some k) (sym e) (rw (eq-eqb t t refl) refl)) ∙ q
 
   module _ (payload buf : List ℕ) (time : ℕ) (high : Bool) (ns nq : ℕ) (out : List ℕ) where
     entry : Step → Entry
     entry step = record { call = turn time high ns nq buf; answer = turned (turn_answer step (swept_by step w.unit) w.unit payload buf) out }
 
-    target_open : (t : ℕ) (k : Request) → (swept_by Visits w.unit).seen.sent ≡ To t k → target (entry Visits ∷ l) ≡ some t
+    target_open : (t : ℕ) (k : Request) → (swept_by Visits w.unit).seen.sent ≡ sent_to t k → target (entry Visits ∷ l) ≡ some t
     unfolding entry turn_answer
     target_open t k e = rw e refl
 
-    aimed_turn : (step : Step) (sent : Sent) → (swept_by step w.unit).seen.sent ≡ sent → let st = after_turn step sent time w.unit.state in
+    aimed_turn : (step : Step) (sent : CodeOption Sent) → (swept_by step w.unit).seen.sent ≡ sent → let st = after_turn step sent time w.unit.state in
         eqb st.open_kind 0 ≡ false → target (entry step ∷ l) ≡ some st.open_slot
     aimed_turn Halt sent e c = absurd (false≢true (sym c))
     aimed_turn Control sent e c = absurd (false≢true (sym c))
     aimed_turn Back sent e c = absurd (false≢true (sym c))
-    aimed_turn Visits Nobody e c = absurd (false≢true (sym c))
-    aimed_turn Visits (To t k) e c = target_open t k e
+    aimed_turn Visits None e c = absurd (false≢true (sym c))
+    aimed_turn Visits (Some x) e c = target_open x.slot x.kind e
 
     pub inv_turn : let step = step_at time high w.unit in
         Valid (unit_turned step (swept_by step w.unit) time w.unit)
@@ -279,7 +279,7 @@ module _ (w : World) (l : List Entry) (i : Inv w l) where
     reached-empty s e = rw (← i.frame_is, e) refl
 
     -- the slot that a turn asks is reached
-    reached-asked : (s : ℕ) (k : Request) (o : occupied w.unit s) → (swept_by step w.unit).seen.sent ≡ To s k → reached l (turn_answer step (swept_by step w.unit) w.unit payload buf) s ≡ true
+    reached-asked : (s : ℕ) (k : Request) (o : occupied w.unit s) → (swept_by step w.unit).seen.sent ≡ sent_to s k → reached l (turn_answer step (swept_by step w.unit) w.unit payload buf) s ≡ true
     reached-asked s k o e = reached_visited s o ∙ sends (swung step s o).visited _ (kind_here s k (swept_by step w.unit).seen.sent _ e (swung step s o).kind)
       where
         sends : (b : Bool) (r : Option Request) → some k ≡ cond b r none → b ≡ true
@@ -293,7 +293,7 @@ module _ (w : World) (l : List Entry) (i : Inv w l) where
   is-kind Data e = omega arith
 
   -- the slot that is asked is occupied
-  pub sent_there : (ps : List Peripheral) (time t : ℕ) (k : Request) → Valid (state_is (after_turn Visits (To t k) time w.unit.state) (balances_are ps w.unit)) → occupied w.unit t
+  pub sent_there : (ps : List Peripheral) (time t : ℕ) (k : Request) → Valid (state_is (after_turn Visits (sent_to t k) time w.unit.state) (balances_are ps w.unit)) → occupied w.unit t
   sent_there ps time t k v = ⊎_elim (λ c. absurd (is-kind k c.kind)) (λ o. o.there) v.standing.request
 
   pub asked-reached : (step : Step) (payload buf : List ℕ) (time s : ℕ) → Valid (unit_turned step (swept_by step w.unit) time w.unit) → let a = turn_answer step (swept_by step w.unit) w.unit payload buf in
@@ -304,17 +304,17 @@ module _ (w : World) (l : List Entry) (i : Inv w l) where
   asked-reached Back payload buf time s v q = absurd (none-ne-some s q)
   asked-reached Visits payload buf time s v q = by_sent (swept_by Visits w.unit).seen.sent refl q v
     where
-      by_sent : (sent : Sent) → (swept_by Visits w.unit).seen.sent ≡ sent → slot_asked (visits_transmit sent (asked_in (swept_by Visits w.unit)) w.unit.parameters) ≡ some s
+      by_sent : (sent : CodeOption Sent) → (swept_by Visits w.unit).seen.sent ≡ sent → slot_asked (visits_transmit sent (asked_in (swept_by Visits w.unit)) w.unit.parameters) ≡ some s
           → Valid (state_is (after_turn Visits sent time w.unit.state) (balances_are (swept_by Visits w.unit).balances w.unit)) → reached l (turn_answer Visits (swept_by Visits w.unit) w.unit payload buf) s ≡ true
-      by_sent Nobody e q v = absurd (none-ne-some s q)
-      by_sent (To t k) e q v =
-          let z : t ≡ s = cc in
-          reached-asked Visits payload buf s k (subst (occupied w.unit) z (sent_there _ time t k v)) (rw z at e)
+      by_sent None e q v = absurd (none-ne-some s q)
+      by_sent (Some x) e q v =
+          let z : x.slot ≡ s = cc in
+          reached-asked Visits payload buf s x.kind (subst (occupied w.unit) z (sent_there _ time x.slot x.kind v)) (e ∙ ap (λ (t : ℕ). sent_to t x.kind) z)
 
   -- ---- the balance that is asked: after its own visit, which sent
 
   pub asked_is : (t : ℕ) (k : Request) → let x = swept_by Visits w.unit in
-      x.seen.sent ≡ To t k → occupied w.unit t → asked_in x ≡ station_is (visited_of (Sends k) (balance w.unit t).station) (balance w.unit t)
+      x.seen.sent ≡ sent_to t k → occupied w.unit t → asked_in x ≡ station_is (visited_of (Sends k) (balance w.unit t).station) (balance w.unit t)
   asked_is t k e o =
       let x = swept_by Visits w.unit in
       let y = swung Visits t o in
@@ -389,7 +389,7 @@ module _ (w : World) (l : List Entry) (i : Inv w l) where
     mask_event =
         let x = swept_by step w.unit in
         let f = firsts step in
-        let address : ℕ = (balance_at x.balances x.seen.first).station.address in
+        let address : ℕ = (get_or x.balances (first_index x.seen.first) blank).station.address in
         record {
           above = f.within;
           event = event_is x.seen f;
@@ -397,5 +397,5 @@ module _ (w : World) (l : List Entry) (i : Inv w l) where
           lowest = event-lowest x.seen f address;
           address = λ t.
               let k = fell x.seen f t in
-              rw (not_none x.seen f k, lt-ltb x.seen.first slots k.below) (address-before x.seen.first (there x.seen.first k.own));
+              rw (k.is, lt-ltb k.first slots k.below) (address-before k.first (there k.first k.own));
         }

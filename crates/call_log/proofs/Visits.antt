@@ -5,6 +5,7 @@ use mathlib.Core.Bool.{Bool, true, false, ◌&&◌, false≢true, cond}
 use mathlib.Core.Logic.{◌⊎◌, inl, inr, ⊎_elim}
 use mathlib.Core.List.{List}
 use mathlib.Core.Option.{Option, none, some}
+use Rattle.std.specs.Prelude.{Option as CodeOption, Some, None}
 use Prim.Native.Nat.{ℕ, zero, suc, ◌+◌, ◌-◌, ◌≤◌, ◌<◌, ◌^◌}
 use native.Mathlib.Omega.{arith}
 use native.Mathlib.Nat.{add-zero}
@@ -25,26 +26,29 @@ use Rattle.peripheral.specs.Visit.{visit_action, visited_by}
 use Rattle.peripheral_set.specs.Marks.{slots}
 use Rattle.cycle.specs.declared.seen.Seen.{Seen}
 use Rattle.cycle.specs.declared.seen.Sent.{Sent}
-use Rattle.cycle.specs.declared.seen.Sent.TheVariants.{Nobody, To}
 use Rattle.cycle.specs.Seen.{bit_at, nothing_seen, seen_by, idle}
 use Rattle.master.specs.Turn.{Swept, sweep_from}
 use Rattle.master.proofs.Bits.{bit, or_bit, pow-bit_same, pow-bit_below, pow-bit-above, zero_bit}
 use Rattle.master.proofs.Sweep.{sweep_skip, sweep_visit, sweep_stopped}
 use Rattle.call_log.proofs.Lives.{kind_of}
 
+-- what the visits leave where request k went to slot t; `Some` and `None` are the code's, `some` and `none` those of the log
+abbrev pub sent_to : ℕ → Request → CodeOption Sent
+sent_to t k = Some (record { slot = t; kind = k })
+
 -- the request that went to slot s
-abbrev pub kind_sent : ℕ → Sent → Option Request
-kind_sent s Nobody = none
-kind_sent s (To t k) = cond (eqb s t) (some k) none
+abbrev pub kind_sent : ℕ → CodeOption Sent → Option Request
+kind_sent s None = none
+kind_sent s (Some x) = cond (eqb s x.slot) (some x.kind) none
 
 -- the visits went at least up to slot s
-abbrev pub went_to : ℕ → Sent → Bool
-went_to s Nobody = true
-went_to s (To t k) = leb s t
+abbrev pub went_to : ℕ → CodeOption Sent → Bool
+went_to s None = true
+went_to s (Some x) = leb s x.slot
 
-idle_is : (x : Sent) → idle x ≡ true → x ≡ Nobody
-idle_is Nobody e = refl
-idle_is (To t k) e = absurd (false≢true e)
+idle_is : (x : CodeOption Sent) → idle x ≡ true → x ≡ None
+idle_is None e = refl
+idle_is (Some x) e = absurd (false≢true e)
 
 -- ---- one visit
 
@@ -221,39 +225,40 @@ all_visits limit marks from s ps h n m =
 -- ---- the event of a turn: nobody fell, or it has the lowest bit of the mask; i is where the visits go on
 
 pub record Lowest (i : ℕ) (seen : Seen) : Type 0 where
-  pub below : seen.first < i
-  pub own : bit seen.first seen.mask ≡ 1
-  pub lower : (s : ℕ) → s < seen.first → bit s seen.mask ≡ 0
+  pub first : ℕ
+  pub is : seen.first ≡ Some first
+  pub below : first < i
+  pub own : bit first seen.mask ≡ 1
+  pub lower : (s : ℕ) → s < first → bit s seen.mask ≡ 0
 
 pub record Firsts (i : ℕ) (seen : Seen) : Type 0 where
   pub within : seen.mask < 2 ^ slots
-  pub either : ((seen.first ≡ 255) × (seen.mask ≡ 0)) ⊎ Lowest i seen
+  pub either : ((seen.first ≡ None) × (seen.mask ≡ 0)) ⊎ Lowest i seen
 
 or_kept : (a b k : ℕ) → bit k a ≡ 1 → bit k (bit_or a b) ≡ 1
 or_kept a b k e = or_bit a b k ∙ rw e (omega arith)
 
-fell_first : (i : ℕ) (seen : Seen) → i < slots → ((seen.first ≡ 255) × (seen.mask ≡ 0)) ⊎ Lowest i seen → Lowest (i + 1) (seen_by i Drops seen)
+fell_first : (i : ℕ) (seen : Seen) → i < slots → ((seen.first ≡ None) × (seen.mask ≡ 0)) ⊎ Lowest i seen → Lowest (i + 1) (seen_by i Drops seen)
 fell_first i seen h (inl e) =
-    rw e.0
-    (record { below = omega arith; own = see_here Drops i seen h; lower = λ s t. see_other Drops i s seen (inr t) ∙ rw e.1 (zero_bit s) })
+    record { first = i; is = rw e.0 refl; below = omega arith; own = see_here Drops i seen h; lower = λ s t. see_other Drops i s seen (inr t) ∙ rw e.1 (zero_bit s) }
 fell_first i seen h (inr f) =
-    let n : eqb seen.first 255 ≡ false = ne_eqb seen.first 255 (λ e. omega (arith, f.below)) in
-    rw n
-    (record {
+    record {
+      first = f.first;
+      is = rw f.is refl;
       below = omega (arith, f.below);
-      own = or_kept seen.mask (bit_at i) seen.first f.own;
+      own = or_kept seen.mask (bit_at i) f.first f.own;
       lower = λ s t. see_other Drops i s seen (inr (omega (arith, f.below))) ∙ f.lower s t;
-    })
+    }
 
 later : (i : ℕ) (seen : Seen) → Firsts i seen → Firsts (i + 1) seen
 later i seen f =
     record {
       within = f.within;
-      either = ⊎_elim (λ e. inl e) (λ e. inr (record { below = omega (arith, e.below); own = e.own; lower = e.lower })) f.either;
+      either = ⊎_elim (λ e. inl e) (λ e. inr (record { first = e.first; is = e.is; below = omega (arith, e.below); own = e.own; lower = e.lower })) f.either;
     }
 
 see_first : (v : Visited) (i : ℕ) (seen : Seen) → i < slots → Firsts i seen → Firsts (i + 1) (seen_by i v seen)
-see_first (Sends k) i seen h f = let g = later i seen f in record { within = g.within; either = ⊎_elim (λ e. inl e) (λ e. inr (record { below = e.below; own = e.own; lower = e.lower })) g.either }
+see_first (Sends k) i seen h f = let g = later i seen f in record { within = g.within; either = ⊎_elim (λ e. inl e) (λ e. inr (record { first = e.first; is = e.is; below = e.below; own = e.own; lower = e.lower })) g.either }
 see_first Drops i seen h f = record { within = or_lt slots seen.mask (bit_at i) f.within (rw (lt-ltb i slots h) (pow-lt h)); either = inr (fell_first i seen h f.either) }
 see_first Skips i seen h f = later i seen f
 

@@ -1,10 +1,9 @@
 -- The benches of the tables in Life.antt and SecondLife.antt, the calls that they are made of, and the numbers that stand for an answer.
 -- From 01, "The unit and its sizes" and "One turn".
-use Rattle.std.specs.Prelude.{ℕ, Bool, true, false, cond, List, [], ◌∷◌, ◌++◌, take}
+use Rattle.std.specs.Prelude.{ℕ, Bool, true, false, cond, List, [], ◌∷◌, ◌++◌, take, Some, None}
 use Rattle.parts.specs.Parts.{zeros}
 use Rattle.fdl.specs.Bits.{bit_number, request_number}
 use Rattle.fdl.specs.Sap.{sap_number}
-use Rattle.fdl.specs.declared.consts.Sap.TheVariants.{Absent, At}
 use Rattle.fdl.specs.declared.parameters.Parameters.{Parameters}
 use Rattle.fdl.specs.declared.telegram.DataTelegramHeader.{DataTelegramHeader}
 use Rattle.fdl.specs.declared.telegram.Telegram.{Telegram}
@@ -76,7 +75,7 @@ turn_at time = turn time false 4 2 (zeros 244)
 
 -- its reply to a diagnosis request: 00 0C 00 02 12 34
 abbrev pub diagnosis_reply : Call
-diagnosis_reply = reply 7 (Data (At 62) (At 60) 0) (0 ∷ 0x0C ∷ 0 ∷ 2 ∷ 0x12 ∷ 0x34 ∷ []) 2 8
+diagnosis_reply = reply 7 (Data (Some 62) (Some 60) 0) (0 ∷ 0x0C ∷ 0 ∷ 2 ∷ 0x12 ∷ 0x34 ∷ []) 2 8
 
 -- one balance, in Operate; newest first
 abbrev pub started : List Call
@@ -100,7 +99,7 @@ configured =
 
 -- then data is asked for, and 11 22 comes
 abbrev pub exchanged : List Call
-exchanged = reply 7 (Data Absent Absent 8) (11 ∷ 22 ∷ []) 2 8 ∷ turn_at 9 ∷ configured
+exchanged = reply 7 (Data None None 8) (11 ∷ 22 ∷ []) 2 8 ∷ turn_at 9 ∷ configured
 
 -- the unit and the pools then
 abbrev pub started_bench : World
@@ -195,4 +194,4 @@ abbrev pub small_turn : ℕ → Call
 small_turn time = turn time false 0 0 (zeros 244)
 
 abbrev pub small_reply : ℕ → Call
-small_reply address = reply address (Data (At 62) (At 60) 0) (0 ∷ 0x0C ∷ 0 ∷ 2 ∷ 0x12 ∷ 0x34 ∷ []) 0 0
+small_reply address = reply address (Data (Some 62) (Some 60) 0) (0 ∷ 0x0C ∷ 0 ∷ 2 ∷ 0x12 ∷ 0x34 ∷ []) 0 0

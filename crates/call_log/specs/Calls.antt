@@ -19,9 +19,8 @@ use Rattle.answers.specs.declared.reply_answer.ReplyAnswer.{ReplyAnswer}
 use Rattle.answers.specs.Turn.{refused_turn}
 use Rattle.answers.specs.ReplyAnswer.{refused_reply}
 use Rattle.master.specs.declared.unit.DpMaster.{DpMaster}
-use Rattle.master.specs.declared.unit.Done.{Done}
 use Rattle.master.specs.declared.add.Addition.{Addition}
-use Rattle.master.specs.Unit.{state_is}
+use Rattle.master.specs.Unit.{Done, state_is}
 use Rattle.master.specs.Pools.{Pools, lend, after_lent, lend_all, back_all}
 use Rattle.master.specs.Add.{user_of, config_of, lengths_of, newcomer, unit_added, pools_after, refusal_of}
 use Rattle.master.specs.Turn.{Swept, step_at, swept_by, unit_turned, turn_payload, turn_answer}

@@ -1,7 +1,6 @@
 -- The life of one balance, and of two: their calls, and the numbers that their answers have. It shows that what is promised happens, and each line of the tables is held to the definitions.
 -- From 01, "One turn", "One visit and one reply" and "Refusal numbers".
-use Rattle.std.specs.Prelude.{ℕ, List, [], ◌∷◌}
-use Rattle.fdl.specs.declared.consts.Sap.TheVariants.{Absent, At}
+use Rattle.std.specs.Prelude.{ℕ, List, [], ◌∷◌, Some, None}
 use Rattle.fdl.specs.declared.telegram.Telegram.TheVariants.{ShortConfirmation, Data}
 use Rattle.cycle.specs.declared.state.OperatingState.TheVariants.{Stop, Clear, Operate}
 use Rattle.call_log.specs.Calls.{Call, enter, reply, reset, wish, write, hand}
@@ -11,11 +10,11 @@ use Rattle.call_log.specs.Bench.{add_bench, add_with, turn_at, diagnosis_reply, 
 
 -- with an extended part of two bytes
 abbrev pub extended_reply : Call
-extended_reply = bench_reply (Data (At 62) (At 60) 0) (0x08 ∷ 0x0C ∷ 0 ∷ 2 ∷ 0x12 ∷ 0x34 ∷ 0xAA ∷ 0xBB ∷ [])
+extended_reply = bench_reply (Data (Some 62) (Some 60) 0) (0x08 ∷ 0x0C ∷ 0 ∷ 2 ∷ 0x12 ∷ 0x34 ∷ 0xAA ∷ 0xBB ∷ [])
 
 -- one that comes where parameters are to be acknowledged: it changes nothing
 abbrev pub late_reply : Call
-late_reply = bench_reply (Data (At 62) (At 60) 0) (0x08 ∷ 0x0C ∷ 0 ∷ 2 ∷ 0x12 ∷ 0x34 ∷ 0xCC ∷ [])
+late_reply = bench_reply (Data (Some 62) (Some 60) 0) (0x08 ∷ 0x0C ∷ 0 ∷ 2 ∷ 0x12 ∷ 0x34 ∷ 0xCC ∷ [])
 
 abbrev pub first_half : List Call
 first_half =
@@ -32,7 +31,7 @@ first_half =
     ∷ turn_at 0
     ∷ turn_at 1
     ∷ reply 8 ShortConfirmation [] 2 8
-    ∷ bench_reply (Data Absent Absent 5) []
+    ∷ bench_reply (Data None None 5) []
     ∷ extended_reply
     ∷ turn_at 2
     ∷ turn_at 1
@@ -53,13 +52,13 @@ abbrev pub second_half : List Call
 second_half =
     turn_at 8
     ∷ turn_at 9
-    ∷ bench_reply (Data Absent Absent 10) (11 ∷ 22 ∷ [])
+    ∷ bench_reply (Data None None 10) (11 ∷ 22 ∷ [])
     ∷ turn_at 10
     ∷ turn_at 11
     ∷ diagnosis_reply
     ∷ turn_at 11
     ∷ turn_at 11
-    ∷ bench_reply (Data Absent Absent 9) (33 ∷ 44 ∷ [])
+    ∷ bench_reply (Data None None 9) (33 ∷ 44 ∷ [])
     ∷ wish (handle_to 0)
     ∷ wish (handle_to 32)
     ∷ turn_at 12

@@ -1,9 +1,8 @@
 -- A second life, of two balances: a table of calls, oldest first, each with the numbers of its answer. What the first leaves out: status 3, ParameterError, ConfigError, 0x0100,
 -- two Offline in one turn, and a wish while a data request is open. Each line is held to the definitions.
 -- From 01, "One turn" and "One visit and one reply"; the reason from there stands above each line.
-use Rattle.std.specs.Prelude.{ℕ, Bool, true, false, List, [], ◌∷◌, ◌++◌}
+use Rattle.std.specs.Prelude.{ℕ, Bool, true, false, List, [], ◌∷◌, ◌++◌, Some, None}
 use Rattle.parts.specs.Parts.{zeros}
-use Rattle.fdl.specs.declared.consts.Sap.TheVariants.{Absent, At}
 use Rattle.fdl.specs.declared.parameters.Parameters.{Parameters}
 use Rattle.fdl.specs.declared.telegram.Telegram.{Telegram}
 use Rattle.fdl.specs.declared.telegram.Telegram.TheVariants.{ShortConfirmation, Data}
@@ -72,7 +71,7 @@ reply_from address t payload = reply address t payload 3 0
 
 -- a diagnosis with these two bytes of flags
 abbrev pub diagnosis_from : (address low high : ℕ) → Call
-diagnosis_from address low high = reply_from address (Data (At 62) (At 60) 0) (low ∷ high ∷ 0 ∷ 2 ∷ 0x12 ∷ 0x34 ∷ [])
+diagnosis_from address low high = reply_from address (Data (Some 62) (Some 60) 0) (low ∷ high ∷ 0 ∷ 2 ∷ 0x12 ∷ 0x34 ∷ [])
 
 -- ---- the numbers of a turn, by 01's table of requests: done, no cycle completed, mask 0, no event, no slot; then what was sent
 
@@ -126,21 +125,21 @@ offline_together =
     -- WaitForParam: 0x80 with 0x20 sync and 0x08 watchdog, its factors, min Tsdr, ident, groups, user parameters; taking cycled the bit
     ∷ (turn_to 4, parameters_to 0 7 2 (0xA8 ∷ 2 ∷ 5 ∷ 11 ∷ 0x12 ∷ 0x34 ∷ 1 ∷ 0xA1 ∷ 0xA2 ∷ []))
     -- no short confirmation: no change, so count 1 and the same bit
-    ∷ (reply_from 7 (Data Absent Absent 0) [], (0 ∷ 0 ∷ 0 ∷ 255 ∷ []))
+    ∷ (reply_from 7 (Data None None 0) [], (0 ∷ 0 ∷ 0 ∷ 255 ∷ []))
     -- the second has no sync, no groups and user parameters of 0 bytes
     ∷ (turn_to 5, parameters_to 1 8 2 (0x88 ∷ 2 ∷ 5 ∷ 11 ∷ 0x56 ∷ 0x78 ∷ 0 ∷ []))
     -- no change here either
-    ∷ (reply_from 8 (Data Absent Absent 0) [], (0 ∷ 1 ∷ 0 ∷ 255 ∷ []))
+    ∷ (reply_from 8 (Data None None 0) [], (0 ∷ 1 ∷ 0 ∷ 255 ∷ []))
     -- place back
     ∷ (turn_to 6, quiet_turn)
     -- count 1 is not above the limit 1: sent again
     ∷ (turn_to 7, parameters_to 0 7 2 (0xA8 ∷ 2 ∷ 5 ∷ 11 ∷ 0x12 ∷ 0x34 ∷ 1 ∷ 0xA1 ∷ 0xA2 ∷ []))
     -- no change: count 2
-    ∷ (reply_from 7 (Data Absent Absent 0) [], (0 ∷ 0 ∷ 0 ∷ 255 ∷ []))
+    ∷ (reply_from 7 (Data None None 0) [], (0 ∷ 0 ∷ 0 ∷ 255 ∷ []))
     -- sent again
     ∷ (turn_to 8, parameters_to 1 8 2 (0x88 ∷ 2 ∷ 5 ∷ 11 ∷ 0x56 ∷ 0x78 ∷ 0 ∷ []))
     -- no change: count 2
-    ∷ (reply_from 8 (Data Absent Absent 0) [], (0 ∷ 1 ∷ 0 ∷ 255 ∷ []))
+    ∷ (reply_from 8 (Data None None 0) [], (0 ∷ 1 ∷ 0 ∷ 255 ∷ []))
     -- place back
     ∷ (turn_to 9, quiet_turn)
     -- both counts are above the limit: two Offline in one turn, the event is the first one's, the mask has both bits; past the last slot
@@ -230,7 +229,7 @@ wished_while_open =
     -- data: no SAPs, SRD high, the output image as zeroed at adding
     (turn_to 32, data_to 0 7 2 (0 ∷ 0 ∷ []))
     -- status 3: ValidateConfig, count 0 and bit cycled, no event
-    ∷ (reply_from 7 (Data Absent Absent 3) [], (0 ∷ 0 ∷ 0 ∷ 255 ∷ []))
+    ∷ (reply_from 7 (Data None None 3) [], (0 ∷ 0 ∷ 0 ∷ 255 ∷ []))
     -- the second: diagnosis
     ∷ (turn_to 33, diagnosis_to 1 8 2)
     -- flags 0x0004 without 0x0040: Offline, ConfigError
@@ -250,7 +249,7 @@ wished_while_open =
     -- a wish while the data request is open
     ∷ (wish (record { slot = 0; address = 7 }), (0 ∷ []))
     -- data was asked, whatever is due: status 0 and as long as the input image: stored, DataExchange, DataExchanged
-    ∷ (reply_from 7 (Data Absent Absent 0) (11 ∷ 22 ∷ []), (0 ∷ 0 ∷ 5 ∷ 0 ∷ []))
+    ∷ (reply_from 7 (Data None None 0) (11 ∷ 22 ∷ []), (0 ∷ 0 ∷ 5 ∷ 0 ∷ []))
     -- the second: count 0 again, diagnosis
     ∷ (turn_to 39, diagnosis_to 1 8 1)
     -- skipped

@@ -21,5 +21,5 @@ turn-TurnAnswer-refused κs a z y e f p q = same p q
 pub turn-TurnAnswer-of : Coincide 0 K·turn-TurnAnswer-of.ps K·turn-TurnAnswer-of.r R·turn-TurnAnswer-of.Learnt (λ κs z y e f. z ≡ y)
 turn-TurnAnswer-of κs a z y e f p q = same p q
 
-pub reply_answer-judge : Coincide 1 K·reply-answer-judge.ps K·reply-answer-judge.r R·reply-answer-judge.Learnt (λ κs z y e f. z ≡ y)
+pub reply_answer-judge : Coincide 2 K·reply-answer-judge.ps K·reply-answer-judge.r R·reply-answer-judge.Learnt (λ κs z y e f. z ≡ y)
 reply_answer-judge κs a z y e f p q = same p q

@@ -13,18 +13,20 @@ use Rattle.cycle.proofs.seen.bit.Kinds as K·seen-bit
 use Rattle.cycle.proofs.seen.bit.Reads as R·seen-bit
 use Rattle.cycle.proofs.seen.index.Kinds as K·seen-index
 use Rattle.cycle.proofs.seen.index.Reads as R·seen-index
-use Rattle.cycle.proofs.seen.Sent.index.Kinds as K·seen-Sent-index
-use Rattle.cycle.proofs.seen.Sent.index.Reads as R·seen-Sent-index
+use Rattle.cycle.proofs.seen.Seen.sent_index.Kinds as K·seen-Seen-sent-index
+use Rattle.cycle.proofs.seen.Seen.sent_index.Reads as R·seen-Seen-sent-index
+use Rattle.cycle.proofs.seen.Seen.first_index.Kinds as K·seen-Seen-first-index
+use Rattle.cycle.proofs.seen.Seen.first_index.Reads as R·seen-Seen-first-index
 use Rattle.cycle.proofs.seen.Seen.new.Kinds as K·seen-Seen-new
 use Rattle.cycle.proofs.seen.Seen.new.Reads as R·seen-Seen-new
 use Rattle.cycle.proofs.seen.Seen.seen_after.Kinds as K·seen-Seen-visited
 use Rattle.cycle.proofs.seen.Seen.seen_after.Reads as R·seen-Seen-visited
 use Rattle.cycle.proofs.seen.Seen.next.Kinds as K·seen-Seen-next
 use Rattle.cycle.proofs.seen.Seen.next.Reads as R·seen-Seen-next
-use Rattle.cycle.proofs.state.OperatingState.number.Kinds as K·state-OperatingState-number
-use Rattle.cycle.proofs.state.OperatingState.number.Reads as R·state-OperatingState-number
-use Rattle.cycle.proofs.state.OperatingState.of.Kinds as K·state-OperatingState-of
-use Rattle.cycle.proofs.state.OperatingState.of.Reads as R·state-OperatingState-of
+use Rattle.cycle.proofs.state.U8FromOperatingState.from.Kinds as K·state-U8FromOperatingState-from
+use Rattle.cycle.proofs.state.U8FromOperatingState.from.Reads as R·state-U8FromOperatingState-from
+use Rattle.cycle.proofs.state.OperatingStateFromU8.from.Kinds as K·state-OperatingStateFromU8-from
+use Rattle.cycle.proofs.state.OperatingStateFromU8.from.Reads as R·state-OperatingStateFromU8-from
 use Rattle.cycle.proofs.state.DpMasterState.new.Kinds as K·state-DpMasterState-new
 use Rattle.cycle.proofs.state.DpMasterState.new.Reads as R·state-DpMasterState-new
 use Rattle.cycle.proofs.state.DpMasterState.enter.Kinds as K·state-DpMasterState-enter
@@ -61,8 +63,11 @@ seen-bit κs a z y e f p q = same p q
 pub seen-index : Coincide 0 K·seen-index.ps K·seen-index.r R·seen-index.Learnt (λ κs z y e f. z ≡ y)
 seen-index κs a z y e f p q = same p.0 q.0
 
-pub seen-Sent-index : Coincide 0 K·seen-Sent-index.ps K·seen-Sent-index.r R·seen-Sent-index.Learnt (λ κs z y e f. z ≡ y)
-seen-Sent-index κs a z y e f p q = same p.0 q.0
+pub seen-Seen-sent_index : Coincide 0 K·seen-Seen-sent-index.ps K·seen-Seen-sent-index.r R·seen-Seen-sent-index.Learnt (λ κs z y e f. z ≡ y)
+seen-Seen-sent_index κs a z y e f p q = same p.0 q.0
+
+pub seen-Seen-first_index : Coincide 0 K·seen-Seen-first-index.ps K·seen-Seen-first-index.r R·seen-Seen-first-index.Learnt (λ κs z y e f. z ≡ y)
+seen-Seen-first_index κs a z y e f p q = same p.0 q.0
 
 pub seen-Seen-new : Coincide 0 K·seen-Seen-new.ps K·seen-Seen-new.r R·seen-Seen-new.Learnt (λ κs z y e f. z ≡ y)
 seen-Seen-new κs a z y e f p q = same p q
@@ -70,14 +75,14 @@ seen-Seen-new κs a z y e f p q = same p q
 pub seen-Seen-seen_after : Coincide 0 K·seen-Seen-visited.ps K·seen-Seen-visited.r R·seen-Seen-visited.Learnt (λ κs z y e f. z ≡ y)
 seen-Seen-seen_after κs a z y e f p q = same p q
 
-pub seen-Seen-next : Coincide 0 K·seen-Seen-next.ps K·seen-Seen-next.r R·seen-Seen-next.Learnt (λ κs z y e f. z ≡ y)
+pub seen-Seen-next : Coincide 1 K·seen-Seen-next.ps K·seen-Seen-next.r R·seen-Seen-next.Learnt (λ κs z y e f. z ≡ y)
 seen-Seen-next κs a z y e f p q = same p q
 
-pub state-OperatingState-number : Coincide 0 K·state-OperatingState-number.ps K·state-OperatingState-number.r R·state-OperatingState-number.Learnt (λ κs z y e f. z ≡ y)
-state-OperatingState-number κs a z y e f p q = same p q
+pub state-U8FromOperatingState-from : Coincide 0 K·state-U8FromOperatingState-from.ps K·state-U8FromOperatingState-from.r R·state-U8FromOperatingState-from.Learnt (λ κs z y e f. z ≡ y)
+state-U8FromOperatingState-from κs a z y e f p q = same p q
 
-pub state-OperatingState-of : Coincide 0 K·state-OperatingState-of.ps K·state-OperatingState-of.r R·state-OperatingState-of.Learnt (λ κs z y e f. z ≡ y)
-state-OperatingState-of κs a z y e f p q = same p q
+pub state-OperatingStateFromU8-from : Coincide 0 K·state-OperatingStateFromU8-from.ps K·state-OperatingStateFromU8-from.r R·state-OperatingStateFromU8-from.Learnt (λ κs z y e f. z ≡ y)
+state-OperatingStateFromU8-from κs a z y e f p q = same p q
 
 pub state-DpMasterState-new : Coincide 0 K·state-DpMasterState-new.ps K·state-DpMasterState-new.r R·state-DpMasterState-new.Learnt (λ κs z y e f. z ≡ y)
 state-DpMasterState-new κs a z y e f p q = same p q

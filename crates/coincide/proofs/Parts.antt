@@ -6,10 +6,6 @@ use Rattle.parts.specs.Parts.{SamePart}
 use Rattle.parts.proofs.Laws.{itself_same}
 use Rattle.coincide.specs.Coincide.{Coincide}
 use Rattle.coincide.proofs.Law.{same}
-use Rattle.parts.proofs.widen16.Kinds as K·widen16
-use Rattle.parts.proofs.widen16.Reads as R·widen16
-use Rattle.parts.proofs.widen8.Kinds as K·widen8
-use Rattle.parts.proofs.widen8.Reads as R·widen8
 use Rattle.parts.proofs.inside.Kinds as K·inside
 use Rattle.parts.proofs.inside.Reads as R·inside
 use Rattle.parts.proofs.byte_at.Kinds as K·byte-at
@@ -22,12 +18,6 @@ use Rattle.parts.proofs.part.Kinds as K·part
 use Rattle.parts.proofs.part.Reads as R·part
 use Rattle.parts.proofs.part_mut.Kinds as K·part-mut
 use Rattle.parts.proofs.part_mut.Reads as R·part-mut
-
-pub widen16 : Coincide 0 K·widen16.ps K·widen16.r R·widen16.Learnt (λ κs z y e f. z ≡ y)
-widen16 κs a z y e f p q = same p.0 q.0
-
-pub widen8 : Coincide 0 K·widen8.ps K·widen8.r R·widen8.Learnt (λ κs z y e f. z ≡ y)
-widen8 κs a z y e f p q = same p.0 q.0
 
 pub inside : Coincide 0 K·inside.ps K·inside.r R·inside.Learnt (λ κs z y e f. z ≡ y)
 inside κs a z y e f p q = same p q

@@ -3,6 +3,8 @@
 use mathlib.Core.Path.{◌≡◌}
 use Rattle.coincide.specs.Coincide.{Coincide}
 use Rattle.coincide.proofs.Law.{same}
+use Rattle.refusals.proofs.U8FromRefusal.from.Kinds as K·U8FromRefusal-from
+use Rattle.refusals.proofs.U8FromRefusal.from.Reads as R·U8FromRefusal-from
 use Rattle.refusals.proofs.parameter.Kinds as K·parameter
 use Rattle.refusals.proofs.parameter.Reads as R·parameter
 use Rattle.refusals.proofs.lent.Kinds as K·lent
@@ -29,6 +31,9 @@ use Rattle.refusals.proofs.usable.Kinds as K·usable
 use Rattle.refusals.proofs.usable.Reads as R·usable
 use Rattle.refusals.proofs.write.Kinds as K·write
 use Rattle.refusals.proofs.write.Reads as R·write
+
+pub U8FromRefusal-from : Coincide 0 K·U8FromRefusal-from.ps K·U8FromRefusal-from.r R·U8FromRefusal-from.Learnt (λ κs z y e f. z ≡ y)
+U8FromRefusal-from κs a z y e f p q = same p q
 
 pub parameter : Coincide 0 K·parameter.ps K·parameter.r R·parameter.Learnt (λ κs z y e f. z ≡ y)
 parameter κs a z y e f p q = same p q

@@ -73,7 +73,7 @@ pub fn reply_refusal(
         .and(refusals::usable(telegram.is_usable(payload)))
 }
 
-// An add without its ranges: what is lent (2), the first empty `slot`, SLOTS for none (5), address, and whether it is another balance's (6), lengths (7).
+// An add without its ranges: what is lent (2), the first empty `slot`, SLOTS for none, as row `full_row` reads it (5), address, and whether it is another balance's (6), lengths (7).
 pub fn add_refusal(
     u: Parameters,
     lent: Lent,

@@ -31,6 +31,7 @@ pub enum Step {
 }
 
 // Everything of the master that changes with each turn or reply. An open request has a kind that is not 0.
+// Kinds are numbers and marks stand beside their times, and there is no `Option`, since the record has C's layout and every value of it is accepted. DECISIONS 27
 #[repr(C)]
 #[derive(Clone, Copy, Default)]
 pub struct DpMasterState {
@@ -141,7 +142,7 @@ impl DpMasterState {
         }
     }
 
-    // The slot from which a turn visits; SLOTS where it visits none.
+    // The slot from which a turn visits; SLOTS where it visits none, as `start_of` says: any number is a place to search from. DECISIONS 27
     pub fn start(self, step: Step) -> usize
         ensures { result ≡ start_of step self }
     {

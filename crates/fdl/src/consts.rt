@@ -23,6 +23,7 @@ pub enum Service {
 }
 
 // The number that stands for an access point, 255 for none.
+// A function, and so is the next: `From` is not for two types of the library.
 pub fn sap_number(sap: Option<u8>) -> u8
     ensures { result ≡ sap_number sap }
 {

@@ -6,6 +6,7 @@ ghost use Rattle.fdl.specs.Params.{creation_refusal, in_force, lowest};
 use refusals::{MAX_ADDRESS, MAX_POOL, MAX_RETRIES, MAX_SLOT_TIME, Refusal};
 
 // What a unit is created with, and what it holds of that from then on.
+// The watchdog's mark stands beside its factors, and is no `Option`, since the record has C's layout and every value of it is answered with a number.
 #[repr(C)]
 #[derive(Clone, Copy)]
 pub struct Parameters {

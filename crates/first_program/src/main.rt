@@ -4,19 +4,15 @@
 // From turn 2 on every second turn asks the balance: diagnosis, parameters, configuration, diagnosis, and then data each time.
 // Its reply ends the cycle, since there is no other balance, and the turn after it sends nothing: it takes the place back to the first slot.
 //
-// The balance is played by `weight`, `telegram` and `payload`. On a real line the header of the request and the first `len` bytes of
+// The balance is played by `telegram` and `payload`. On a real line the header of the request and the first `len` bytes of
 // `buf` go out, and what comes back is handed in.
 #![tactic(auto)]
 
-ghost use Rattle.std.specs.Prelude.{◌≡◌, [], ◌∷◌};
-
 use answers::reply_answer::ReplyAnswer;
 use answers::turn::Transmission;
-use fdl::consts::Sap;
 use fdl::parameters::Parameters;
 use fdl::telegram::Telegram;
 use master::add::Addition;
-use master::turn::Turn;
 use master::unit::DpMaster;
 use payloads::options::PeripheralOptions;
 use payloads::request::Request;
@@ -56,31 +52,24 @@ fn balance() -> Addition {
     };
     Addition {
         address: 5,
-        options: options,
+        options,
         input_len: 4,
         output_len: 2,
         room: 16,
     }
 }
 
-// What lies on the balance at a turn. The last byte is the turn, so that a line shows with which reply its weight came.
-fn weight(turn: u8) -> [u8; 4]
-    ensures { result ≡ 0 ∷ 0 ∷ 9 ∷ turn ∷ [] }
-{
-    [0, 0, 9, turn]
-}
-
 // What the balance replies to a request: its diagnosis, its weight, or that it took what was sent.
 fn telegram(kind: Request) -> Telegram {
     match kind {
         Request::Diagnosis => Telegram::Data {
-            dsap: Sap::At(62),
-            ssap: Sap::At(60),
+            dsap: Some(62),
+            ssap: Some(60),
             status: 8,
         },
         Request::Data => Telegram::Data {
-            dsap: Sap::Absent,
-            ssap: Sap::Absent,
+            dsap: None,
+            ssap: None,
             status: 8,
         },
         _ => Telegram::ShortConfirmation,
@@ -92,81 +81,41 @@ fn payload<'a>(kind: Request, diagnosis: &'a [u8], weight: &'a [u8]) -> &'a [u8]
     match kind {
         Request::Diagnosis => diagnosis,
         Request::Data => weight,
-        _ => &weight[0..0],
+        _ => &[],
     }
-}
-
-// A word and a number.
-fn say(rt: &impl Print, word: &[u8], n: u8) -> io::Result<()> {
-    rt.write_all(word)?;
-    print!(rt; "{n}")
-}
-
-// A line for a turn: what happened, and bytes, each after a space.
-fn line(rt: &impl Print, turn: u8, what: &[u8], bytes: &[u8]) -> io::Result<()> {
-    say(rt, b"turn ", turn)?;
-    rt.write_all(what)?;
-    for i in 0..bytes.len() {
-        say(rt, b" ", bytes[i])?;
-    }
-    rt.write_all(b"\n")
 }
 
 // A line for each event that a sound balance gives. Only DataExchanged says that the image is new: then it is read, by the event's handle.
 fn report(
     rt: &impl Print,
-    m: DpMaster,
+    m: &DpMaster,
     answer: ReplyAnswer,
     turn: u8,
     inputs: &[u8],
 ) -> io::Result<()> {
-    let event = answer.event;
-    match event {
-        PeripheralEvent::Online => line(rt, turn, b": Online", b""),
-        PeripheralEvent::Configured => line(rt, turn, b": Configured", b""),
+    match answer.event {
+        PeripheralEvent::Online => println!(rt; "turn {turn}: Online"),
+        PeripheralEvent::Configured => println!(rt; "turn {turn}: Configured"),
         PeripheralEvent::DataExchanged => {
-            let image = access::images::pi_i(m, answer.handle, inputs);
-            line(rt, turn, b": weight", image)
+            print!(rt; "turn {turn}: weight")?;
+            for byte in access::images::pi_i(m, answer.handle, inputs) {
+                print!(rt; " {byte}")?;
+            }
+            println!(rt)
         }
         _ => Ok(()),
     }
 }
 
-// After a turn: where it sent a request, the reply is handed in and reported. After the global control none comes.
-fn after(
-    rt: &impl Print,
-    t: Turn,
-    turn: u8,
-    inputs: &mut [u8],
-    diags: &mut [u8],
-) -> io::Result<DpMaster> {
-    let m = t.master;
-    let answer = t.answer;
-    let sent = answer.transmission;
-    let Transmission::Request {
-        slot: _,
-        kind,
-        header,
-    } = sent
-    else {
-        return Ok(m);
-    };
-    let weight = weight(turn);
-    let came = payload(kind, b"\x00\x0C\x00\x02\x12\x34", &weight);
-    let r = m.receive_reply(header.da, telegram(kind), came, inputs, diags);
-    report(rt, r.master, r.answer, turn, inputs)?;
-    Ok(r.master)
-}
-
-// The pools and the payload buffer are the caller's, and lent to the calls that need them. The unit goes in and comes back by value.
+// The pools and the payload buffer are the caller's, and lent to the calls that need them.
 fn main(rt: HostRuntime) -> io::Result<()> {
     let mut setup = [0u8; 64];
     let mut inputs = [0u8; 16];
     let mut outputs = [0u8; 16];
     let mut diags = [0u8; 64];
     let mut buf = [0u8; 244];
-    let made = DpMaster::new(parameters());
-    let added = made.master.add(
+    let mut m = DpMaster::new(parameters()).master;
+    let added = m.add(
         balance(),
         b"\x00",
         b"\x13\x21",
@@ -175,12 +124,23 @@ fn main(rt: HostRuntime) -> io::Result<()> {
         &mut outputs,
         &mut diags,
     );
-    say(&rt, b"add: number ", added.refusal)?;
-    rt.write_all(b"\n")?;
-    let mut m = added.master.enter_operate();
+    let number = match added {
+        Ok(_) => 0,
+        Err(refusal) => u8::from(refusal),
+    };
+    println!(rt; "add: number {number}")?;
+    m.enter_operate();
     for turn in 1..=20 {
-        let t = m.transmit_telegram(100 * (turn as u64), false, &setup, &outputs, &mut buf);
-        m = after(&rt, t, turn, &mut inputs, &mut diags)?;
+        let time = 100 * u64::from(turn);
+        let sent = m.transmit_telegram(time, false, &setup, &outputs, &mut buf);
+        // The global control gets no reply.
+        if let Transmission::Request { kind, header, .. } = sent.transmission {
+            // The last byte of the weight is the turn, so that a line shows with which reply it came.
+            let weight = [0, 0, 9, turn];
+            let came = payload(kind, b"\x00\x0C\x00\x02\x12\x34", &weight);
+            let answer = m.receive_reply(header.da, telegram(kind), came, &mut inputs, &mut diags);
+            report(&rt, &m, answer, turn, &inputs)?;
+        }
     }
     Ok(())
 }

@@ -7,15 +7,15 @@ use Prim.Native.Nat.{ℕ, zero, suc, ◌+◌, ◌≤◌, ◌<◌}
 use native.Mathlib.Nat.{not-suc-le-zero, le_of_suc-le-suc}
 use native.Mathlib.Omega.{arith}
 use lib.Seq.{length-take-le}
-use lib.Dec.{leb}
+use lib.Dec.{leb, ltb}
 use lib.ListN.{length, set, take, drop, drop_of_length-le, get_or, length-map, get_or-map}
-use borrow.Author.Tests.{leb-true}
+use borrow.Author.Tests.{leb-true, ltb-true, ltb-false}
 use Rattle.parts.proofs.Laws.{by_test}
 use Rattle.peripheral_set.specs.declared.Entry.{Entry}
 use Rattle.peripheral_set.specs.Marks.{slots, listed, listed_from}
 use Rattle.master.specs.declared.unit.DpMaster.{DpMaster}
 use Rattle.access.specs.Lookup.{entry_at}
-use Rattle.forms.specs.Listing.{entries, shown, overlay}
+use Rattle.forms.specs.Listing.{entries, list_refusal, shown, overlay}
 
 -- ---- which entries
 
@@ -25,6 +25,13 @@ unfolding listed_from
 few zero marks i = omega arith
 few (suc n) marks i =
     by_test (get_or marks i false) (λ e. rw e (omega (arith, few n marks (i + 1)))) (λ e. rw e (omega (arith, few n marks (i + 1))))
+
+-- a list that is refused is too short, and another is not
+pub refused_short : (room : ℕ) → (list_refusal room ≡ 0 → ⊥) → room < slots
+refused_short room z = by_test (ltb room slots) (λ e. ltb-true room slots e) (λ e. absurd (z (rw e refl)))
+
+pub taken_long : (room : ℕ) → list_refusal room ≡ 0 → slots ≤ room
+taken_long room z = by_test (ltb room slots) (λ e. let two : ◌≡◌ {A = ℕ} 2 0 = rw e at z in omega (arith, two)) (λ e. ltb-false room slots e)
 
 module _ (m : DpMaster) where
   -- an entry for each occupied slot
@@ -62,12 +69,6 @@ pub overlay-length : (new old : List Entry) → length new ≤ length old → le
 overlay-length [] old h = refl
 overlay-length (x ∷ new) [] h = absurd (not-suc-le-zero h)
 overlay-length (x ∷ new) (y ∷ old) h = ap suc (overlay-length new old (le_of_suc-le-suc h))
-
-pub take-fits : (i : ℕ) (new : List Entry) (n : ℕ) → length new ≤ n → length (take i new) ≤ n
-take-fits zero new n h = omega arith
-take-fits (suc i) [] n h = h
-take-fits (suc i) (x ∷ new) zero h = absurd (not-suc-le-zero h)
-take-fits (suc i) (x ∷ new) (suc n) h = omega (arith, take-fits i new n (le_of_suc-le-suc h))
 
 -- the rows that are all written over, with the rest of the list behind them
 pub laid : (new old rows : List Entry) (k : ℕ) → k ≡ length new → k ≤ length old → rows ≡ overlay new (take k old) → rows ++ drop k old ≡ overlay new old

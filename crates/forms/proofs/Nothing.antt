@@ -6,14 +6,21 @@ use mathlib.Core.Bool.{Bool, true, false, true≢false, cond}
 use mathlib.Core.List.{List, []}
 use lib.Dec.{eqb}
 use borrow.Author.Tests.{ne_eqb}
+use Rattle.std.specs.Result.{result_unwrap_or}
 use Rattle.parts.specs.Parts.{inside, part}
 use Rattle.parts.proofs.Laws.{by_test}
+use Rattle.refusals.specs.Table.{given}
 use Rattle.payloads.specs.declared.diagnosis.DiagnosticsInfo.{DiagnosticsInfo}
 use Rattle.payloads.specs.Diagnosis.{no_diagnosis}
 use Rattle.peripheral_set.specs.declared.PeripheralHandle.{PeripheralHandle}
 use Rattle.master.specs.declared.unit.DpMaster.{DpMaster}
 use Rattle.access.specs.Lookup.{found_in, diag_number, extended_seen}
 use Rattle.forms.specs.Diagnosis.{last_numbers}
+
+-- what is given, else what stands for it
+pub given_or : {A : Type 0} (n : ℕ) (v w : A) → result_unwrap_or (given n v) w ≡ cond (eqb n 0) v w
+unfolding given
+given_or n v w = by_test (eqb n 0) (λ e. rw e refl) (λ e. rw e refl)
 
 none_of : (at : ℕ) (l : List ℕ) → part at 0 l ≡ []
 unfolding part

@@ -1,17 +1,19 @@
 -- The last diagnosis as one record: the numbers of the covered form, and the part of the pool that is its extended part.
 -- From 01, "The unit and its sizes" (the last diagnosis), "Refusal numbers" (empty views) and `PeripheralDiagnostics`.
-use Rattle.std.specs.Prelude.{◌≡◌, ℕ, List}
+use Rattle.std.specs.Prelude.{◌≡◌, ℕ, cond, List, eqb}
 use Rattle.std.specs.Borrow.{Bor}
 use Rattle.parts.specs.Parts.{Itself}
 use Rattle.payloads.specs.declared.diagnosis.DiagnosticsInfo.{DiagnosticsInfo}
+use Rattle.payloads.specs.Diagnosis.{no_diagnosis}
+use Rattle.station.specs.Record.{last_diagnosis}
 use Rattle.peripheral_set.specs.declared.PeripheralHandle.{PeripheralHandle}
 use Rattle.master.specs.declared.unit.DpMaster.{DpMaster}
-use Rattle.access.specs.Lookup.{found_in, diag_number, extended_seen, last_of}
+use Rattle.access.specs.Lookup.{found_in, diag_number, extended_seen}
 use Rattle.forms.specs.declared.diagnosis.PeripheralDiagnostics.{PeripheralDiagnostics}
 
 -- the numbers: none before one is held, and when refused
 abbrev pub last_numbers : DpMaster → PeripheralHandle → List ℕ → DiagnosticsInfo
-last_numbers m h pool = (last_of (diag_number m h pool) (found_in m h)).value
+last_numbers m h pool = cond (eqb (diag_number m h pool) 0) (last_diagnosis (found_in m h).station) no_diagnosis
 
 -- the numbers of a record
 abbrev pub numbers_of : PeripheralDiagnostics → DiagnosticsInfo

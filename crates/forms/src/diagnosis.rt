@@ -1,10 +1,13 @@
 // The last diagnosis as one record that refers to the extended part in the lent pool.
 ghost use Rattle.std.specs.Prelude.{◌≡◌};
+ghost use Rattle.refusals.specs.Table.{outcome};
 ghost use Rattle.access.specs.Lookup.{diag_number};
 ghost use Rattle.forms.specs.Diagnosis.{part_of, Says};
 
 use master::unit::DpMaster;
+use payloads::diagnosis::DiagnosticsInfo;
 use peripheral_set::PeripheralHandle;
+use refusals::Refusal;
 
 // The last diagnosis. "None" is `held` false, zeros, master 255 and an empty part; a master of 255 is none.
 #[derive(Clone, Copy)]
@@ -21,11 +24,15 @@ pub struct PeripheralDiagnostics<'a> {
     pub extended_diagnostics: &'a [u8],
 }
 
-// The number of `last_diagnostics`, which itself answers the record alone.
+// Whether `last_diagnostics` is refused, which itself answers the record alone.
 // Refuses: pooled_rows.
 // Changes: nothing.
-pub fn last_diagnostics_refusal(m: DpMaster, handle: PeripheralHandle, diags: &[u8]) -> u8
-    ensures { result ≡ diag_number m handle diags.now }
+pub fn last_diagnostics_refusal(
+    m: &DpMaster,
+    handle: PeripheralHandle,
+    diags: &[u8],
+) -> Result<(), Refusal>
+    ensures { result ≡ outcome (diag_number m.now handle diags.now) }
 {
     access::images::pooled_refusal(m, handle, diags.len(), m.parameters.diag_pool)
 }
@@ -34,21 +41,20 @@ pub fn last_diagnostics_refusal(m: DpMaster, handle: PeripheralHandle, diags: &[
 // Refuses: pooled_rows.
 // Changes: nothing.
 pub fn last_diagnostics<'a>(
-    m: DpMaster,
+    m: &DpMaster,
     handle: PeripheralHandle,
     diags: &'a [u8],
 ) -> PeripheralDiagnostics<'a>
-    ensures { Says m handle diags.entry result }
+    ensures { Says m.now handle diags.entry result }
 {
     let last = access::diagnosis::last_diagnostics(m, handle, diags);
-    let info = last.value;
-    let ext = access::diagnosis::extended_diagnostics(m, handle, diags);
+    let info = last.unwrap_or(DiagnosticsInfo::none());
     PeripheralDiagnostics {
         flags: info.flags,
         ident_number: info.ident_number,
         master_address: info.master_address,
         held: info.held,
-        extended_diagnostics: ext,
+        extended_diagnostics: access::diagnosis::extended_diagnostics(m, handle, diags),
     }
 }
 

@@ -37,6 +37,7 @@ impl DpMaster {
         let step = s.step(time, high_prio_only, u.slot_time);
         let mut seen = Seen::new();
         let mut next = peripheral_set::at_or_after(&marks, s.start(step));
+        // where the visits go on depends on what each one did
         while let Some(i) = next {
             let v = self.peripherals[i].visit(u.max_retry_limit);
             self.peripherals[i] = v.peripheral;

@@ -24,6 +24,7 @@ pub struct Used {
 }
 
 // The unit: 24 bytes that change with each turn, 20 of parameters, 8 of used lengths, a mark and 36 bytes a slot; 1,240 in all.
+// An array of marks beside one of records is document 01's form, and so are 32 slots and no heap.
 #[repr(C)]
 #[derive(Clone, Copy)]
 pub struct DpMaster {
@@ -102,7 +103,7 @@ impl DpMaster {
         self.state = self.state.enter(state);
     }
 
-    // As `enter_state` with Stop: turns send nothing.
+    // As `enter_state` with Stop, by the Rust's name as the next two: turns send nothing.
     // Refuses: nothing.
     // Changes: as `enter_state`.
     pub fn enter_stop(&mut self)

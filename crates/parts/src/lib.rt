@@ -2,23 +2,9 @@
 // Every function is total: a range that does not lie in the slice reads as empty, and nothing is written.
 #![tactic(auto)]
 
-ghost use Rattle.std.specs.Prelude.{◌≡◌, ◌+◌, ◌<◌, leb, get_or};
+ghost use Rattle.std.specs.Prelude.{◌≡◌, ◌+◌, leb, get_or};
 ghost use denote.MutBor.{as_bor};
 ghost use Rattle.parts.specs.Parts.{zeros, Put, view_at, Itself};
-
-// An offset in a pool or a pool's length, at most 65,535, widened where it is used.
-pub fn widen16(at: u16) -> usize
-    ensures { (result ≡ at) × (result < 65536) }
-{
-    at as usize
-}
-
-// A length of at most 255 bytes, or a slot number, widened where it is used.
-pub fn widen8(len: u8) -> usize
-    ensures { (result ≡ len) × (result < 256) }
-{
-    len as usize
-}
 
 // Whether the range of `len` bytes from `at` lies in `total` bytes.
 pub fn inside(at: usize, len: usize, total: usize) -> bool
@@ -46,6 +32,7 @@ pub fn copy_at(dst: &mut [u8], at: usize, room: usize, src: &[u8]) -> bool
 }
 
 // The range of `len` bytes from `at` is cleared to zeros where it lies in `dst`; answers whether it did.
+// Of its own: `copy_at` of zeros would need as many zeros to copy.
 pub fn clear_at(dst: &mut [u8], at: usize, len: usize) -> bool
     ensures { Put at len (zeros len) dst.old dst.new result }
 {
@@ -69,6 +56,7 @@ pub fn part(src: &[u8], at: usize, len: usize) -> &[u8]
 }
 
 // The same range as that of `part`, for the caller to write.
+// Of its own, since no function is both over `&` and over `&mut`.
 #[tactic(auto, unfolding(crate::specs::Parts::part, crate::specs::Parts::inside))]
 pub fn part_mut(src: &mut [u8], at: usize, len: usize) -> &mut [u8]
     ensures { Itself (view_at at len src.old) (as_bor src.entry) (as_bor result) }

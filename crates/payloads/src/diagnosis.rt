@@ -71,6 +71,7 @@ impl DiagnosticFlags {
 }
 
 // Whether it is data with DSAP 62, SSAP 60 and at least 6 bytes.
+// A test beside `read_diagnosis`, which reads any bytes: its promise on too few would go in one that answers an `Option`.
 pub fn is_taken(telegram: Telegram, len: usize) -> bool
     ensures { result ≡ taken telegram len }
 {

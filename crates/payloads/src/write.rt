@@ -1,4 +1,5 @@
 // Payloads written into the lent buffer: its front has the payload and the length is answered, or nothing is written and the answer is 0.
+// 0 and no `None`, since a payload that does not fit is one of length 0 in the turn's answer: DECISIONS 25, and `length_in`.
 ghost use Rattle.std.specs.Prelude.{◌≡◌, cond, ◌++◌, ◌≤◌};
 ghost use Rattle.parts.specs.Parts.{zeros};
 ghost use Rattle.payloads.specs.Payload.{param_head, control_payload, Written};

@@ -9,7 +9,7 @@ use payloads::diagnosis::DiagnosticsInfo;
 use payloads::options::PeripheralOptions;
 use station::record::Station;
 
-// Where the four ranges stand in their pools. The set-up range is as long as its user parameters and configuration.
+// Where the four ranges stand in their lent pools, document 01's form for images that the Rust owns or borrows. The set-up range is as long as its user parameters and configuration.
 #[repr(C)]
 #[derive(Clone, Copy, Default)]
 pub struct Ranges {

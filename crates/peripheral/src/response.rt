@@ -13,6 +13,7 @@ use station::heard::Heard;
 use station::state::{PeripheralEvent, PeripheralState};
 
 // What of a payload is kept: the input image, or the extended part of a diagnosis.
+// Three outcomes, of which none is a failure: no `Option`.
 #[derive(Clone, Copy)]
 pub enum Keeps {
     // No byte: both pools stay as they are.

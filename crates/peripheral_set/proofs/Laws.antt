@@ -3,7 +3,7 @@
 -- Slots that are passed together are passed one after the other. The library's methods go over the same marks: their words of lists are tied to the
 -- search and to the listing by induction, and a slot's number is below `slots`.
 use mathlib.Core.Path.{◌≡◌, refl, ◌∙◌}
-use mathlib.Core.Bool.{Bool, true, false, not, cond, beq}
+use mathlib.Core.Bool.{Bool, true, false, not, ◌||◌, cond, beq}
 use mathlib.Mathlib.Data.Bool.Basic.{or-eq-false-eq-eq-false-and-eq-false as neither}
 use mathlib.Core.Logic.{by_cases}
 use mathlib.Core.List.{List, ◌∷◌}
@@ -47,14 +47,28 @@ unset true e = e
 unset false e = refl
 
 module _ (none n : ℕ) (marks : List Bool) where
-  pub search_past : (k i : ℕ) → i + k ≤ n → n ≤ length marks → list_any (λ m. beq m true) (take k (drop i marks)) ≡ false
+  pub search_over : (k i : ℕ) → i + k ≤ n → n ≤ length marks → list_any (λ m. beq m true) (take k (drop i marks)) ≡ false
       → search_from none true (n - i) marks i ≡ search_from none true (n - (i + k)) marks (i + k)
-  search_past zero i l h e = let z : i + 0 ≡ i = omega arith in rw z refl
-  search_past (suc k) i l h e =
+  search_over zero i l h e = let z : i + 0 ≡ i = omega arith in rw z refl
+  search_over (suc k) i l h e =
       let next : drop i marks ≡ get_or marks i false ∷ drop (i + 1) marks = rw add-one (drop-cons marks i false (omega arith)) in
       let both = (neither (beq (get_or marks i false) true) _).0 (rw next at e) in
       let z : i + suc k ≡ (i + 1) + k = omega arith in
-      rw z (search_on none true n marks i (omega arith) (unset _ both.0) ∙ search_past k (i + 1) (omega arith) h both.1)
+      rw z (search_on none true n marks i (omega arith) (unset _ both.0) ∙ search_over k (i + 1) (omega arith) h both.1)
+
+-- one of k slots from i on is occupied
+unfoldable pub any_from : ℕ → List Bool → ℕ → Bool
+any_from zero marks i = false
+any_from (suc k) marks i = any_from k marks i || get_or marks (i + k) false
+
+module _ (none n : ℕ) (marks : List Bool) where
+  pub search_past : (k i : ℕ) → i + k ≤ n → any_from k marks i ≡ false → search_from none true (n - i) marks i ≡ search_from none true (n - (i + k)) marks (i + k)
+  unfolding any_from
+  search_past zero i l e = let z : i + 0 ≡ i = omega arith in rw z refl
+  search_past (suc k) i l e =
+      let both = (neither (any_from k marks i) (get_or marks (i + k) false)).0 e in
+      let z : i + suc k ≡ i + k + 1 = omega arith in
+      rw z (search_past k i (omega arith) both.0 ∙ search_on none true n marks (i + k) (omega arith) both.1)
 
 -- ---- what a search answers, among k slots from i on
 
@@ -173,6 +187,7 @@ none_told i b e =
     not_not : (b : Bool) → true ≡ not b → b ≡ false
     not_not true q = q
     not_not false q = refl
+
     true_not : (b : Bool) → false ≡ not b → b ≡ true
     true_not true q = refl
     true_not false q = q

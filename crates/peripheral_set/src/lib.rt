@@ -11,7 +11,7 @@ use refusals::Refusal;
 // The number of slots. The definitions say it again, as `slots`.
 pub const SLOTS: usize = 32;
 
-// A slot with the address at issue.
+// A slot with the address at issue. None is 255 and 255, and no `Option`, since it has C's layout and any handle may be handed in. DECISIONS 10
 #[repr(C)]
 #[derive(Clone, Copy, PartialEq, Eq)]
 pub struct PeripheralHandle {
@@ -21,7 +21,7 @@ pub struct PeripheralHandle {
     pub address: u8,
 }
 
-// One row of the listing.
+// One row of the listing; 255, 255 and not running where there is none, by `entry_at`.
 #[repr(C)]
 #[derive(Clone, Copy, PartialEq, Eq)]
 pub struct Entry {

@@ -13,7 +13,7 @@ use borrow.Author.Tests.{eqb-true, eq-eqb, not-true}
 use Rattle.parts.proofs.Laws.{and_left, and_right}
 use Rattle.refusals.specs.declared.Refusal.{Refusal}
 use Rattle.refusals.specs.declared.Refusal.TheVariants.{BadParameter, BadLent, EarlyTurn, BadHandle, TableFull, BadAddress, TooLong, NoRoom, NotAsked, Unusable, BadLength}
-use Rattle.refusals.specs.Table.{Row, first_of, said, or_else, refusal_number, refusal_numbered, given, outcome}
+use Rattle.refusals.specs.Table.{Row, first_of, said, or_else, refusal_number, refusal_numbered, given, outcome, number_of}
 
 -- no row has the number 0, which is "done"
 abbrev pub numbered : List Row → Bool
@@ -146,28 +146,36 @@ told (r ∷ rows) h {e} p = by r.applies p (told rows (and_right (eqb (refusal_n
     by true p rest = number-told r.number (eqb-true _ r.number (and_left (eqb (refusal_number (refusal_numbered r.number)) r.number) (known rows) h)) p
     by false p rest = rest p
 
+-- an answer follows from its number
+pub outcome-back : (z : Result Unit Refusal) → outcome (number_of z) ≡ z
+outcome-back (Ok tt) = done
+outcome-back (Err r) = refused r
+
+pub same_number : (z y : Result Unit Refusal) → number_of z ≡ number_of y → z ≡ y
+same_number z y e = sym (outcome-back z) ∙ ap outcome e ∙ outcome-back y
+
 -- ---- the code's order: each row, `and` the next
 
-abbrev pub in_turn : Result Unit Refusal → List Row → Result Unit Refusal
-in_turn x [] = x
-in_turn x (r ∷ rows) = in_turn (result_and x (outcome (said r))) rows
+abbrev pub in_order : Result Unit Refusal → List Row → Result Unit Refusal
+in_order x [] = x
+in_order x (r ∷ rows) = in_order (result_and x (outcome (said r))) rows
 
 -- an answer so far, and then the rows
-from : (x : Result Unit Refusal) (rows : List Row) → numbered rows ≡ true → in_turn x rows ≡ result_and x (outcome (first_of rows))
+from_answer : (x : Result Unit Refusal) (rows : List Row) → numbered rows ≡ true → in_order x rows ≡ result_and x (outcome (first_of rows))
 unfolding given
-from (Ok tt) [] h = refl
-from (Err e) [] h = refl
-from (Err e) (r ∷ rows) h = from (Err e) rows (and_right (not (eqb r.number 0)) (numbered rows) h)
-from (Ok tt) (r ∷ rows) h =
-    from (outcome (said r)) rows (and_right (not (eqb r.number 0)) (numbered rows) h)
+from_answer (Ok tt) [] h = refl
+from_answer (Err e) [] h = refl
+from_answer (Err e) (r ∷ rows) h = from_answer (Err e) rows (and_right (not (eqb r.number 0)) (numbered rows) h)
+from_answer (Ok tt) (r ∷ rows) h =
+    from_answer (outcome (said r)) rows (and_right (not (eqb r.number 0)) (numbered rows) h)
     ∙ by r.applies (not-true (eqb r.number 0) (and_left (not (eqb r.number 0)) (numbered rows) h))
   where
     by : (b : Bool) → eqb r.number 0 ≡ false → result_and (outcome (cond b r.number 0)) (outcome (first_of rows)) ≡ outcome (cond b r.number (first_of rows))
     by true z = rw z refl
     by false z = refl
 
-pub in-turn : (rows : List Row) → numbered rows ≡ true → in_turn (Ok tt) rows ≡ outcome (first_of rows)
-in-turn rows h = from (Ok tt) rows h
+pub in-order : (rows : List Row) → numbered rows ≡ true → in_order (Ok tt) rows ≡ outcome (first_of rows)
+in-order rows h = from_answer (Ok tt) rows h
 
 -- ---- numbers put together by `or_else`
 
@@ -184,6 +192,27 @@ or_assoc a b c = by (eqb a 0) refl
     by : (t : Bool) → eqb a 0 ≡ t → or_else (or_else a b) c ≡ or_else a (or_else b c)
     by true e = rw e refl
     by false e = rw (e, e) refl
+
+-- each row in turn, where none before it spoke
+abbrev pub in_turn : ℕ → List Row → ℕ
+in_turn n [] = n
+in_turn n (r ∷ rows) = in_turn (or_else n (said r)) rows
+
+from : (n : ℕ) (rows : List Row) → numbered rows ≡ true → in_turn n rows ≡ or_else n (first_of rows)
+unfolding or_else
+from n [] h = by (eqb n 0) refl
+  where
+    by : (t : Bool) → eqb n 0 ≡ t → n ≡ or_else n 0
+    by true e = rw e (eqb-true n 0 e)
+    by false e = rw e refl
+from n (r ∷ rows) h =
+    from (or_else n (said r)) rows (and_right (not (eqb r.number 0)) (numbered rows) h)
+    ∙ or_assoc n (said r) (first_of rows)
+    ∙ ap (or_else n) (row_then r.applies r.number (first_of rows) (and_left (not (eqb r.number 0)) (numbered rows) h))
+
+pub in-turn : (rows : List Row) → numbered rows ≡ true → in_turn 0 rows ≡ first_of rows
+unfolding or_else
+in-turn rows h = from 0 rows h
 
 -- of two lists the second speaks where the first says 0
 pub both : (xs ys : List Row) → numbered xs ≡ true → first_of (xs ++ ys) ≡ or_else (first_of xs) (first_of ys)

@@ -1,5 +1,5 @@
 // The table of refusals: its numbers and limits by name, and a function for each row but that of a short list, which stands with the list in `forms`.
-// Every call's refusal is a run of these rows in the table's order, each with a `?`, so that the first that applies is the answer.
+// Every call's refusal is a run of these rows in the table's order, joined by `and`, so that the first that applies is the answer.
 #![tactic(auto)]
 
 ghost use Rattle.std.specs.Prelude.{◌≡◌, cond};

@@ -3,6 +3,7 @@ ghost use Rattle.std.specs.Prelude.{◌≡◌};
 ghost use Rattle.script_driver.specs.Pieces.{line_end, Appended, is_unfinished};
 
 // What came of a line, at the front of a lent array.
+// The mark stands beside the count, and is no `Option`, since what fits stays after a piece that does not: `Appended`.
 #[derive(Drop)]
 pub struct Partial<'a> {
     // The whole array, which goes on behind what came.

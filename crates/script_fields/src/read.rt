@@ -37,6 +37,7 @@ fn pair(text: &[u8]) -> Option<u8>
 }
 
 // Two hex digits a byte, as many as a text begins with and the array holds; answers how many bytes.
+// By number, and not by `iter_mut`, whose early return leaves goals in names of the language's own; the array is fixed, with its count beside it.
 #[tactic(auto, using(crate::proofs::Reading::pairs_within, crate::proofs::Reading::pairs_few))]
 fn pairs(text: &[u8], out: &mut [u8; 255]) -> usize
     ensures count { result ≡ length (pairs_of most text.now) }

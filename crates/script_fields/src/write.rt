@@ -24,6 +24,7 @@ impl Text<'_> {
     }
 
     // A number: decimal digits, no leading zeros, at most 20 of them.
+    // It calls itself, and writes no `write!`, whose contract promises nothing on `Err` and never that there is none.
     pub fn number(&mut self, n: u64)
         ensures { Wrote (decimal n) self.old self.new }
     {

@@ -19,6 +19,7 @@ use peripheral_set::PeripheralHandle;
 use script_fields::read::Reader;
 
 // How many bytes of each array a call is lent, and how many entries of the list.
+// Every reader is given its highest number, so that `as` loses nothing; a reader for each width would need a law a width, since `TryFrom` promises by a relation.
 #[derive(Clone, Copy)]
 pub struct Lent {
     // Bytes of the array of set-up data: L's `ps`, at most `MOST_LENT`.

@@ -1,7 +1,6 @@
 -- The balances of the bench: how each is set up, and what it answers. From docs/COMPARE.md, "Speed".
-use Rattle.std.specs.Prelude.{ℕ, Bool, true, false, cond, eqb}
+use Rattle.std.specs.Prelude.{ℕ, Bool, true, false, ◌||◌, cond, eqb, Option, Some, None}
 use Rattle.fdl.specs.declared.parameters.Parameters.{Parameters}
-use Rattle.fdl.specs.declared.consts.Sap.TheVariants.{Absent, At}
 use Rattle.fdl.specs.declared.telegram.Telegram.{Telegram}
 use Rattle.fdl.specs.declared.telegram.Telegram.TheVariants.{ShortConfirmation, Data as DataReply}
 use Rattle.payloads.specs.declared.request.Request.{Request}
@@ -51,25 +50,22 @@ balance_added address =
       room = 16;
     }
 
-abbrev pub silent : Answer
-silent = record { answers = false; address = 0; slot = 0; «data» = false; telegram = ShortConfirmation }
-
 abbrev pub balance_says : ℕ → ℕ → Bool → Telegram → Answer
-balance_says address slot carries t = record { answers = true; address = address; slot = slot; «data» = carries; telegram = t }
+balance_says address slot carries t = record { address = address; slot = slot; «data» = carries; telegram = t }
 
 -- to a diagnosis request data with DSAP 62, SSAP 60; to parameters and configuration a short confirmation; to data a reply with no SAPs
 abbrev pub said_to : Request → ℕ → ℕ → Answer
-said_to Diagnosis address slot = balance_says address slot false (DataReply (At 62) (At 60) 8)
+said_to Diagnosis address slot = balance_says address slot false (DataReply (Some 62) (Some 60) 8)
 said_to SetUp address slot = balance_says address slot false ShortConfirmation
 said_to Configuration address slot = balance_says address slot false ShortConfirmation
-said_to Data address slot = balance_says address slot true (DataReply Absent Absent 8)
+said_to Data address slot = balance_says address slot true (DataReply None None 8)
 
 -- a request is answered by every balance, or only by the one in slot 0
-abbrev pub said_from : Bool → Request → ℕ → ℕ → Answer
-said_from all kind address slot = cond all (said_to kind address slot) (cond (eqb slot 0) (said_to kind address slot) silent)
+abbrev pub said_from : Bool → Request → ℕ → ℕ → Option Answer
+said_from all kind address slot = cond (all || eqb slot 0) (Some (said_to kind address slot)) None
 
 -- what was sent
-abbrev pub balance_answer : Bool → Transmission → Answer
-balance_answer all Nothing = silent
-balance_answer all (Control h) = silent
+abbrev pub balance_answer : Bool → Transmission → Option Answer
+balance_answer all Nothing = None
+balance_answer all (Control h) = None
 balance_answer all (Asked slot kind h) = said_from all kind h.da slot

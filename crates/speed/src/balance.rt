@@ -1,6 +1,6 @@
 // The balances of the bench: how each is set up, and what it answers.
 ghost use Rattle.std.specs.Prelude.{◌≡◌};
-ghost use Rattle.speed.specs.Balance.{unit_parameters, balance_added, silent, balance_says, said_to, said_from, balance_answer};
+ghost use Rattle.speed.specs.Balance.{unit_parameters, balance_added, said_to, balance_answer};
 
 use answers::turn::Transmission;
 use fdl::parameters::Parameters;
@@ -45,8 +45,8 @@ pub fn addition(address: u8) -> Addition
         config: 0,
     };
     Addition {
-        address: address,
-        options: options,
+        address,
+        options,
         input_len: 4,
         output_len: 4,
         room: 16,
@@ -56,8 +56,6 @@ pub fn addition(address: u8) -> Addition
 // What a balance answers: the telegram, where it comes from, and which payload goes with it.
 #[derive(Clone, Copy)]
 pub struct Answer {
-    // Whether it says anything; where not, the rest is 0 and a short confirmation.
-    pub answers: bool,
     // The address that the reply comes from: 3 plus the slot.
     pub address: u8,
     // The slot of the balance, which is the third byte of its image.
@@ -68,76 +66,39 @@ pub struct Answer {
     pub telegram: Telegram,
 }
 
-fn silence() -> Answer
-    ensures { result ≡ silent }
-{
-    Answer {
-        answers: false,
-        address: 0,
-        slot: 0,
-        data: false,
-        telegram: Telegram::ShortConfirmation,
-    }
-}
-
-fn told(address: u8, slot: u8, data: bool, telegram: Telegram) -> Answer
-    ensures { result ≡ balance_says address slot «data» telegram }
-{
-    Answer {
-        answers: true,
-        address: address,
-        slot: slot,
-        data: data,
-        telegram: telegram,
-    }
-}
-
 // To a request of each kind.
 fn told_to(kind: Request, address: u8, slot: u8) -> Answer
     ensures { result ≡ said_to kind address slot }
 {
-    match kind {
-        Request::Diagnosis => {
-            let telegram = Telegram::Data {
-                dsap: Some(62),
-                ssap: Some(60),
-                status: 8,
-            };
-            told(address, slot, false, telegram)
-        }
-        Request::Parameters => told(address, slot, false, Telegram::ShortConfirmation),
-        Request::Configuration => told(address, slot, false, Telegram::ShortConfirmation),
-        Request::Data => {
-            let telegram = Telegram::Data {
-                dsap: None,
-                ssap: None,
-                status: 8,
-            };
-            told(address, slot, true, telegram)
-        }
+    let telegram = match kind {
+        Request::Diagnosis => Telegram::Data {
+            dsap: Some(62),
+            ssap: Some(60),
+            status: 8,
+        },
+        Request::Parameters | Request::Configuration => Telegram::ShortConfirmation,
+        Request::Data => Telegram::Data {
+            dsap: None,
+            ssap: None,
+            status: 8,
+        },
+    };
+    Answer {
+        address,
+        slot,
+        data: kind == Request::Data,
+        telegram,
     }
 }
 
-// To a request, where the balance in that slot answers.
-fn told_from(all: bool, kind: Request, address: u8, slot: u8) -> Answer
-    ensures { result ≡ said_from all kind address slot }
-{
-    if all {
-        return told_to(kind, address, slot);
-    }
-    if slot == 0 {
-        return told_to(kind, address, slot);
-    }
-    silence()
-}
-
-// To what was sent; in the second mode only slot 0 answers.
-pub fn told_by(all: bool, t: Transmission) -> Answer
+// To what was sent, where the balance in that slot answers; in the second mode only slot 0 does.
+pub fn told_by(all: bool, t: Transmission) -> Option<Answer>
     ensures { result ≡ balance_answer all t }
 {
     match t {
-        Transmission::Nothing => silence(),
-        Transmission::Control(_) => silence(),
-        Transmission::Request { slot, kind, header } => told_from(all, kind, header.da, slot),
+        Transmission::Request { slot, kind, header } if all || slot == 0 => {
+            Some(told_to(kind, header.da, slot))
+        }
+        _ => None,
     }
 }

@@ -20,6 +20,7 @@ pub enum PeripheralState {
 }
 
 // What a visit or a reply reports.
+// Nothing to report has a number of its own, 0, by `event_number`, and is no `None`.
 #[derive(Clone, Copy, PartialEq, Eq)]
 pub enum PeripheralEvent {
     // There is nothing to report.

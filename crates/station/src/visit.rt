@@ -7,6 +7,7 @@ use crate::state::PeripheralState;
 use payloads::request::Request;
 
 // What a visit does: sends a request, reports the station Offline, or nothing.
+// Three outcomes: skipping puts the count to 0 too, and is no `None`.
 #[derive(Clone, Copy)]
 pub enum Visited {
     // Sends this request, and adds 1 to the count.

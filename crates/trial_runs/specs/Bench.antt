@@ -1,27 +1,26 @@
 -- The bench of the trial runs: what stands on it at the start, and what a call on it leaves.
 -- From 01, "Trial runs": the watchdog, Tsdr, ident and groups of the first, the slot time of the eighth, the outputs of the last two.
-use Rattle.std.specs.Prelude.{◌≡◌, ℕ, true, false, List, [], ◌∷◌, replicate}
+use Rattle.std.specs.Prelude.{◌≡◌, ℕ, true, false, List, [], ◌∷◌, replicate, None, Some, Result}
 use Rattle.parts.specs.Parts.{zeros}
+use Rattle.refusals.specs.declared.Refusal.{Refusal}
 use Rattle.fdl.specs.declared.parameters.Parameters.{Parameters}
-use Rattle.fdl.specs.declared.consts.Sap.TheVariants.{Absent, At}
 use Rattle.fdl.specs.declared.telegram.Telegram.{Telegram}
 use Rattle.fdl.specs.declared.telegram.Telegram.TheVariants.{Data}
 use Rattle.cycle.specs.declared.state.OperatingState.{OperatingState}
 use Rattle.cycle.specs.declared.state.OperatingState.TheVariants.{Clear, Operate}
 use Rattle.cycle.specs.State.{entered}
+use Rattle.peripheral_set.specs.declared.PeripheralHandle.{PeripheralHandle}
+use Rattle.answers.specs.declared.reply_answer.ReplyAnswer.{ReplyAnswer}
 use Rattle.master.specs.declared.unit.DpMaster.{DpMaster}
-use Rattle.master.specs.declared.unit.Done.{Done}
 use Rattle.master.specs.declared.add.Addition.{Addition}
-use Rattle.master.specs.Unit.{created_of, state_is}
+use Rattle.master.specs.Unit.{Done, created_of, state_is}
 use Rattle.master.specs.Pools.{pools_of}
-use Rattle.master.specs.Add.{Adding}
+use Rattle.master.specs.Add.{Adding, added_of}
 use Rattle.master.specs.Turn.{Turned}
 use Rattle.master.specs.Receive.{Received}
 use Rattle.trial_runs.specs.declared.bench.Balance.{Balance}
 use Rattle.trial_runs.specs.declared.bench.Bench.{Bench}
-use Rattle.trial_runs.specs.declared.bench.Placed.{Placed}
 use Rattle.trial_runs.specs.declared.bench.Seen.{Seen}
-use Rattle.trial_runs.specs.declared.bench.Replied.{Replied}
 
 -- all but the retry limit is the same in every trial
 abbrev pub case_parameters : ℕ → Parameters
@@ -47,15 +46,22 @@ bench_created limit = created_of (case_parameters limit)
 abbrev pub unit_in : OperatingState → DpMaster → DpMaster
 unit_in o m = state_is (entered o m.state) m
 
-abbrev pub empty_bench : ℕ → Bench
-empty_bench limit = record { unit = unit_in Operate (bench_created limit).master; setup = zeros 512; inputs = replicate 8 7 }
-
-abbrev pub clear_bench : Bench → Bench
-clear_bench b = record { unit = unit_in Clear b.unit; setup = b.setup; inputs = b.inputs }
-
--- what every turn is lent as the pool of output images
+-- what stands in the pool of output images at first
 abbrev pub outputs_lent : List ℕ
 outputs_lent = 1 ∷ 2 ∷ 3 ∷ 4 ∷ 5 ∷ 6 ∷ 7 ∷ 8 ∷ []
+
+abbrev pub empty_bench : ℕ → Bench
+empty_bench limit =
+    record {
+      unit = unit_in Operate (bench_created limit).master;
+      setup = zeros 512;
+      inputs = replicate 8 7;
+      outputs = outputs_lent;
+      diags = zeros 8;
+    }
+
+abbrev pub clear_bench : Bench → Bench
+clear_bench b = record { unit = unit_in Clear b.unit; setup = b.setup; inputs = b.inputs; outputs = b.outputs; diags = b.diags }
 
 -- a balance with ident 0x1234 and groups 0, user parameters and configuration
 abbrev pub case_addition : Balance → Addition
@@ -82,22 +88,25 @@ case_addition b =
 
 -- the two telegrams with a payload
 abbrev pub diagnosis_telegram : Telegram
-diagnosis_telegram = Data (At 62) (At 60) 8
+diagnosis_telegram = Data (Some 62) (Some 60) 8
 
 abbrev pub data_telegram : ℕ → Telegram
-data_telegram status = Data Absent Absent status
+data_telegram status = Data None None status
 
--- an add, a turn and a reply do what their contracts say, on the pools of the bench and on fresh ones
-abbrev pub PlacedOn : Bench → Balance → List ℕ → List ℕ → Placed → Type 0
-PlacedOn b balance user config r =
-    Adding b.unit (case_addition balance) user config (pools_of b.setup b.inputs (zeros 8) (zeros 8)) (pools_of r.bench.setup r.bench.inputs r.outputs r.diags)
-    (record { refusal = r.refusal; handle = r.handle; master = r.bench.unit })
+-- an add, a turn and a reply do what their contracts say, on the pools of the bench
+abbrev pub PlacedOn : Bench → Balance → List ℕ → List ℕ → Bench → Result PeripheralHandle Refusal → Type 0
+PlacedOn b balance user config after r =
+    Adding b.unit (case_addition balance) user config (pools_of b.setup b.inputs b.outputs b.diags) (pools_of after.setup after.inputs after.outputs after.diags)
+    (added_of r after.unit)
 
-pub record SeenOn (b : Bench) (time : ℕ) (r : Seen) : Type 0 where
-  pub call : Turned b.unit time false b.setup outputs_lent (replicate 244 255) r.payload (record { master = r.bench.unit; answer = r.answer })
-  pub setup : r.bench.setup ≡ b.setup
-  pub inputs : r.bench.inputs ≡ b.inputs
+pub record SeenOn (b : Bench) (time : ℕ) (after : Bench) (r : Seen) : Type 0 where
+  pub call : Turned b.unit time false b.setup b.outputs (replicate 244 255) r.payload (record { master = after.unit; answer = r.answer })
+  pub setup : after.setup ≡ b.setup
+  pub inputs : after.inputs ≡ b.inputs
+  pub outputs : after.outputs ≡ b.outputs
+  pub diags : after.diags ≡ b.diags
 
-pub record RepliedOn (b : Bench) (address : ℕ) (t : Telegram) (payload : List ℕ) (r : Replied) : Type 0 where
-  pub call : Received b.unit address t payload b.inputs (zeros 8) r.bench.inputs r.diags (record { master = r.bench.unit; answer = r.answer })
-  pub setup : r.bench.setup ≡ b.setup
+pub record RepliedOn (b : Bench) (address : ℕ) (t : Telegram) (payload : List ℕ) (after : Bench) (r : ReplyAnswer) : Type 0 where
+  pub call : Received b.unit address t payload b.inputs b.diags after.inputs after.diags (record { master = after.unit; answer = r })
+  pub setup : after.setup ≡ b.setup
+  pub outputs : after.outputs ≡ b.outputs

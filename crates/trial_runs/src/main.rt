@@ -1,17 +1,21 @@
 // The eighteen trial runs of document 01, one line each: its number, and "ok" or "bad".
-// Each compares every value that document 01 names for it.
+// Each compares every value that document 01 names for it; a trial whose set-up is refused is bad too.
 #![tactic(auto)]
 
 mod bench;
 
-use crate::bench::{
-    Balance, Bench, KEPT, Placed, Seen, add, clear, created, data, diagnosis, empty, reply, turn,
-};
+use crate::bench::{Balance, Bench, KEPT, OUTPUTS, Seen, created, data, diagnosis};
 use access::diagnosis::last_diagnostics;
 use access::lookup::find;
-use answers::turn::Transmission;
+use answers::reply_answer::ReplyAnswer;
+use answers::turn::{Transmission, TurnAnswer};
 use fdl::telegram::Telegram;
+use payloads::diagnosis::DiagnosticsInfo;
+use payloads::request::Request;
 use peripheral_set::PeripheralHandle;
+use refusals::Refusal;
+use station::record::Station;
+use station::state::{PeripheralEvent, PeripheralState};
 use std::io;
 
 const ADDRESS: u8 = 8;
@@ -25,492 +29,340 @@ const ONE_INPUT: [u8; 1] = [0x10];
 // The configuration of a balance with two bytes of output: one identifier byte.
 const TWO_OUTPUTS: [u8; 1] = [0x21];
 
-// States and events by their numbers.
-const OFFLINE: u8 = 0;
-
-const WAIT_FOR_PARAM: u8 = 1;
-
-const PRE_DATA_EXCHANGE: u8 = 4;
-
-const NO_EVENT: u8 = 0;
-
-const CONFIGURED: u8 = 2;
-
-const PARAMETER_ERROR: u8 = 4;
-
-const DATA_EXCHANGED: u8 = 5;
-
-const WENT_OFFLINE: u8 = 7;
-
-// Kinds of request.
-const DIAGNOSIS: u8 = 1;
-
-const PARAMETERS: u8 = 2;
-
-const DATA: u8 = 4;
-
-const GLOBAL_CONTROL: u8 = 5;
-
-// A reply, and the balance before and after it.
-#[derive(Clone, Copy)]
-struct Reading {
-    asked: u8,
-    refusal: u8,
-    event: u8,
-    state: u8,
-    count: u8,
-    bit_before: u8,
-    bit: u8,
-    due: bool,
-    held: bool,
-    flags: u16,
-    master: u8,
-    image: u8,
-}
-
-// The kind of request that a turn sent, 5 for a global control, 0 for nothing.
-fn sent(t: Seen) -> u8 {
-    let answer = t.answer;
-    let transmission = answer.transmission;
-    match transmission {
-        Transmission::Nothing => 0,
-        Transmission::Control(_) => 5,
-        Transmission::Request {
-            slot: _,
-            kind,
-            header: _,
-        } => kind.number(),
-    }
-}
-
-// The event of a turn by its number.
-fn event(t: Seen) -> u8 {
-    let answer = t.answer;
-    let e = answer.event;
-    e.number()
-}
-
-// A turn, and the reply of the balance at `address`. Where that ends the cycle, one turn more: it only goes back to the first slot.
-fn asked(b: Bench, address: u8, telegram: Telegram, payload: &[u8]) -> Bench {
-    let t = turn(b, CONTROL + 1);
-    let waiting = t.bench;
-    let r = reply(waiting, address, telegram, payload);
-    let after = r.bench;
-    if r.answer.cycle_completed {
-        let back = turn(after, CONTROL + 1);
-        return back.bench;
-    }
-    after
-}
-
-// What a balance should answer to its request number `step`: diagnosis, parameters, configuration, diagnosis.
-fn right(step: u8) -> Telegram {
-    match step {
-        1 => Telegram::ShortConfirmation,
-        2 => Telegram::ShortConfirmation,
-        _ => diagnosis(),
-    }
-}
-
-// One request more, where fewer than `steps` are answered.
-fn step(b: Bench, done: u8, steps: u8) -> Bench {
-    if done < steps {
-        let clean = [0x00u8, 0x00, 0x00, 0x02, 0x12, 0x34];
-        return asked(b, ADDRESS, right(done), &clean);
-    }
-    b
-}
-
-// A bench on which one balance was just placed, after the global control and the first `steps` requests, each answered as it should be:
-// 0 leaves the balance Offline, 4 in PreDataExchange.
-fn brought(placed: Bench, steps: u8) -> Bench {
-    let t = turn(placed, CONTROL);
-    let first = t.bench;
-    let found = step(first, 0, steps);
-    let set = step(found, 1, steps);
-    let configured = step(set, 2, steps);
-    step(configured, 3, steps)
-}
-
-// A balance with an input image of so many bytes and no outputs.
-fn plain(address: u8, image: usize) -> Balance {
-    Balance {
-        address: address,
-        image: image,
-        outputs: 0,
-        fail_safe: false,
-    }
-}
-
-// One balance with an image of no byte or one, brought so many steps.
-fn raised(limit: u8, image: usize, steps: u8, user: &[u8]) -> Bench {
-    let config = parts::part(&ONE_INPUT, 0, image);
-    let added = add(empty(limit), plain(ADDRESS, image), user, config);
-    let placed = added.bench;
-    brought(placed, steps)
-}
-
-// The bench with bytes in the input pool that a reply may keep.
-fn marked(b: Bench) -> Bench {
-    let unit = b.unit;
-    let setup = b.setup;
-    Bench {
-        unit: unit,
-        setup: setup,
-        inputs: [KEPT; 8],
-    }
-}
-
-// The trial of one reply: after `steps` answered requests, one more turn, then this reply.
-fn heard(image: usize, steps: u8, telegram: Telegram, payload: &[u8]) -> Reading {
-    let handle = PeripheralHandle {
-        slot: 0,
-        address: ADDRESS,
-    };
-    let user = [0u8; 0];
-    let diags = [0u8; 8];
-    let b = marked(raised(1, image, steps, &user));
-    let unit = b.unit;
-    let before = find(unit, handle);
-    let was = before.peripheral;
-    let t = turn(b, CONTROL + 1);
-    let waiting = t.bench;
-    let r = reply(waiting, ADDRESS, telegram, payload);
-    let answer = r.answer;
-    let e = answer.event;
-    let after = r.bench;
-    let replied = after.unit;
-    let f = find(replied, handle);
-    let p = f.peripheral;
-    let last = last_diagnostics(replied, handle, &diags);
-    let d = last.value;
-    Reading {
-        asked: sent(t),
-        refusal: answer.refusal,
-        event: e.number(),
-        state: p.station.state,
-        count: p.station.retry_count,
-        bit_before: was.station.fcb,
-        bit: p.station.fcb,
-        due: p.station.diag_needed,
-        held: d.held,
-        flags: d.flags,
-        master: d.master_address,
-        image: after.inputs[0],
+// The kind of request that a turn sent, if it sent one.
+fn asks(answer: TurnAnswer) -> Option<Request> {
+    match answer.transmission {
+        Transmission::Request { kind, .. } => Some(kind),
+        _ => None,
     }
 }
 
 // Whether the payload of a turn is this one.
 fn is_payload(t: Seen, expected: &[u8]) -> bool {
-    if t.answer.len != expected.len() {
-        return false;
-    }
-    let payload = t.payload;
-    parts::part(&payload, 0, expected.len()) == expected
+    t.answer.len == expected.len() && t.payload.starts_with(expected)
 }
 
-// 1: watchdog 2, 5, Tsdr 11, ident 0x1234, groups 0, user 00 01 02.
-fn parameter_bytes() -> bool {
-    let expected = [0x88u8, 0x02, 0x05, 0x0B, 0x12, 0x34, 0x00, 0x00, 0x01, 0x02];
-    let t = turn(raised(1, 0, 1, &[0x00u8, 0x01, 0x02]), CONTROL + 1);
-    is_payload(t, &expected)
-}
-
-// 2: flags 0x0800, master 2, clean.
-fn clean_diagnosis() -> bool {
-    let h = heard(0, 3, diagnosis(), &[0x00u8, 0x0C, 0x00, 0x02, 0x12, 0x34]);
-    if h.asked != DIAGNOSIS {
-        return false;
-    }
-    if h.flags != 0x0800 {
-        return false;
-    }
-    if h.master != 2 {
-        return false;
-    }
-    if h.event != CONFIGURED {
-        return false;
-    }
-    h.state == PRE_DATA_EXCHANGE
-}
-
-// 3: flags 0x0102, no master; in ValidateConfig, WaitForParam.
-fn asks_for_parameters() -> bool {
-    let h = heard(0, 3, diagnosis(), &[0x02u8, 0x05, 0x00, 0xFF, 0x12, 0x34]);
-    if h.asked != DIAGNOSIS {
-        return false;
-    }
-    if h.flags != 0x0102 {
-        return false;
-    }
-    if h.master != 255 {
-        return false;
-    }
-    h.state == WAIT_FOR_PARAM
-}
-
-// 4: 5 bytes, not taken.
-fn short_diagnosis() -> bool {
-    let h = heard(0, 0, diagnosis(), &[0x00u8, 0x0C, 0x00, 0x02, 0x12]);
-    if h.asked != DIAGNOSIS {
-        return false;
-    }
-    if h.refusal != 0 {
-        return false;
-    }
-    if h.held {
-        return false;
-    }
-    if h.event != NO_EVENT {
-        return false;
-    }
-    h.state == OFFLINE
-}
-
-// 5: flags 0x0044, ParameterError.
-fn parameter_error() -> bool {
-    let h = heard(0, 3, diagnosis(), &[0x44u8, 0x00, 0x00, 0x02, 0x12, 0x34]);
-    if h.flags != 0x0044 {
-        return false;
-    }
-    h.event == PARAMETER_ERROR
-}
-
-// 6: status 10, wrong length: due, bit cycled, no event, image kept.
-fn wrong_length() -> bool {
-    let h = heard(1, 4, data(10), &[1u8, 2]);
-    if h.asked != DATA {
-        return false;
-    }
-    if !h.due {
-        return false;
-    }
-    if h.bit == h.bit_before {
-        return false;
-    }
-    if h.event != NO_EVENT {
-        return false;
-    }
-    h.image == KEPT
-}
-
-// 7: status 1, exchange: count 0, no event.
-fn no_data() -> bool {
-    let h = heard(1, 4, data(1), &[1u8]);
-    if h.asked != DATA {
-        return false;
-    }
-    if h.refusal != 0 {
-        return false;
-    }
-    if h.count != 0 {
-        return false;
-    }
-    h.event == NO_EVENT
-}
-
-// What three turns do with the balance silent: the kind of request of each, and whether it reports Offline.
-#[derive(Clone, Copy)]
-struct Three {
-    first: u8,
-    second: u8,
-    third: u8,
-    second_event: u8,
-    third_event: u8,
-}
-
-fn silent(limit: u8, steps: u8, times: [u64; 3]) -> Three {
-    let a = turn(raised(limit, 0, steps, &[0u8; 0]), times[0]);
-    let once = a.bench;
-    let b = turn(once, times[1]);
-    let twice = b.bench;
-    let c = turn(twice, times[2]);
-    Three {
-        first: sent(a),
-        second: sent(b),
-        third: sent(c),
-        second_event: event(b),
-        third_event: event(c),
+// A turn, and the reply of the balance at `address`. Where that ends the cycle, one turn more: it only goes back to the first slot.
+fn ask(b: &mut Bench, address: u8, telegram: Telegram, payload: &[u8]) {
+    b.turn(CONTROL + 1);
+    if b.reply(address, telegram, payload).cycle_completed {
+        b.turn(CONTROL + 1);
     }
 }
 
-// 8: slot time 200, global control at 1,000: at 10,999 not due, at 11,000 due.
-fn control_due() -> bool {
-    let t = silent(1, 0, [10999, 11000, 11001]);
-    if t.first != DIAGNOSIS {
-        return false;
+// What a balance should answer to its request number `step`: diagnosis, parameters, configuration, diagnosis.
+fn right(step: u8) -> Telegram {
+    match step {
+        1 | 2 => Telegram::ShortConfirmation,
+        _ => diagnosis(),
     }
-    t.second == GLOBAL_CONTROL
 }
 
-// 9: limit 1, silent in WaitForParam: sent, sent, Offline.
-fn silent_set_up() -> bool {
-    let t = silent(1, 1, [1001, 1002, 1003]);
-    if t.first != PARAMETERS {
-        return false;
+// A bench on which one balance was just placed, after the global control and the first `steps` requests, each answered as it should be:
+// 0 leaves the balance Offline, 4 in PreDataExchange.
+fn bring(b: &mut Bench, steps: u8) {
+    b.turn(CONTROL);
+    for step in 0..steps {
+        ask(
+            b,
+            ADDRESS,
+            right(step),
+            &[0x00, 0x00, 0x00, 0x02, 0x12, 0x34],
+        );
     }
-    if t.second != PARAMETERS {
-        return false;
-    }
-    t.third_event == WENT_OFFLINE
 }
 
-// 10: limit 0, Offline and silent: sent, Offline event, sent.
-fn silent_offline() -> bool {
-    let t = silent(0, 0, [1001, 1002, 1003]);
-    if t.first != DIAGNOSIS {
-        return false;
+// A balance with an input image of so many bytes and no outputs.
+fn plain(address: u8, image: usize) -> Balance {
+    Balance {
+        address,
+        image,
+        outputs: 0,
+        fail_safe: false,
     }
-    if t.second_event != WENT_OFFLINE {
-        return false;
-    }
-    t.third == DIAGNOSIS
-}
-
-// 11: image 0 bytes, short confirmation: DataExchanged.
-fn empty_image() -> bool {
-    let h = heard(0, 4, Telegram::ShortConfirmation, &[0u8; 0]);
-    if h.asked != DATA {
-        return false;
-    }
-    h.event == DATA_EXCHANGED
-}
-
-// 12: image 1 byte: no event.
-fn one_byte_image() -> bool {
-    let h = heard(1, 4, Telegram::ShortConfirmation, &[0u8; 0]);
-    if h.asked != DATA {
-        return false;
-    }
-    if h.refusal != 0 {
-        return false;
-    }
-    h.event == NO_EVENT
 }
 
 // A balance with no user parameters and no image.
-fn add_plain(b: Bench, address: u8) -> Placed {
-    add(b, plain(address, 0), &[0u8; 0], &[0u8; 0])
+fn add_plain(b: &mut Bench, address: u8) -> Result<PeripheralHandle, Refusal> {
+    b.add(plain(address, 0), &[], &[])
 }
 
-// The number of the add that comes after so many, all of which were done; 255 where one of them was not.
-fn add_after(count: u8) -> u8 {
-    let mut b = empty(1);
-    let mut i: u8 = 0;
-    while i < count {
-        let placed = add_plain(b, 10 + i % 64);
-        if placed.refusal != 0 {
-            return 255;
-        }
-        b = placed.bench;
-        i += 1;
+// One balance with an image of no byte or one, brought so many steps.
+fn raised(limit: u8, image: usize, steps: u8, user: &[u8]) -> Result<Bench, Refusal> {
+    let mut b = Bench::new(limit);
+    b.add(
+        plain(ADDRESS, image),
+        user,
+        parts::part(&ONE_INPUT, 0, image),
+    )?;
+    bring(&mut b, steps);
+    Ok(b)
+}
+
+// What a reply shows: the request before it, its answer, the balance before and after it, its last diagnosis and its image.
+#[derive(Clone, Copy)]
+struct Reading {
+    asked: Option<Request>,
+    answer: ReplyAnswer,
+    before: Station,
+    after: Station,
+    diagnosis: DiagnosticsInfo,
+    image: u8,
+}
+
+impl Reading {
+    // Whether the state of the balance is this one.
+    fn is_in(self, state: PeripheralState) -> bool {
+        PeripheralState::from(self.after.state) == state
     }
-    let last = add_plain(b, ADDRESS);
-    last.refusal
+}
+
+// The trial of one reply: after `steps` answered requests, one more turn, then this reply. The input pool has bytes that it may keep.
+fn heard(image: usize, steps: u8, telegram: Telegram, payload: &[u8]) -> Result<Reading, Refusal> {
+    let handle = PeripheralHandle {
+        slot: 0,
+        address: ADDRESS,
+    };
+    let mut b = raised(1, image, steps, &[])?;
+    b.inputs = [KEPT; 8];
+    let before = find(&b.unit, handle)?.station;
+    let asked = asks(b.turn(CONTROL + 1).answer);
+    let answer = b.reply(ADDRESS, telegram, payload);
+    Ok(Reading {
+        asked,
+        answer,
+        before,
+        after: find(&b.unit, handle)?.station,
+        diagnosis: last_diagnostics(&b.unit, handle, &b.diags)?,
+        image: b.inputs[0],
+    })
+}
+
+// 1: watchdog 2, 5, Tsdr 11, ident 0x1234, groups 0, user 00 01 02.
+fn parameter_bytes() -> Result<bool, Refusal> {
+    let expected = [0x88, 0x02, 0x05, 0x0B, 0x12, 0x34, 0x00, 0x00, 0x01, 0x02];
+    let mut b = raised(1, 0, 1, &[0x00, 0x01, 0x02])?;
+    Ok(is_payload(b.turn(CONTROL + 1), &expected))
+}
+
+// 2: flags 0x0800, master 2, clean.
+fn clean_diagnosis() -> Result<bool, Refusal> {
+    let h = heard(0, 3, diagnosis(), &[0x00, 0x0C, 0x00, 0x02, 0x12, 0x34])?;
+    Ok(
+        h.asked == Some(Request::Diagnosis)
+            && h.diagnosis.flags == 0x0800
+            && h.diagnosis.master_address == 2
+            && h.answer.event == PeripheralEvent::Configured
+            && h.is_in(PeripheralState::PreDataExchange),
+    )
+}
+
+// 3: flags 0x0102, no master; in ValidateConfig, WaitForParam.
+fn asks_for_parameters() -> Result<bool, Refusal> {
+    let h = heard(0, 3, diagnosis(), &[0x02, 0x05, 0x00, 0xFF, 0x12, 0x34])?;
+    Ok(
+        h.asked == Some(Request::Diagnosis)
+            && h.diagnosis.flags == 0x0102
+            && h.diagnosis.master_address == 255
+            && h.is_in(PeripheralState::WaitForParam),
+    )
+}
+
+// 4: 5 bytes, not taken.
+fn short_diagnosis() -> Result<bool, Refusal> {
+    let h = heard(0, 0, diagnosis(), &[0x00, 0x0C, 0x00, 0x02, 0x12])?;
+    Ok(
+        h.asked == Some(Request::Diagnosis)
+            && h.answer.refusal == 0
+            && !h.diagnosis.held
+            && h.answer.event == PeripheralEvent::NoEvent
+            && h.is_in(PeripheralState::Offline),
+    )
+}
+
+// 5: flags 0x0044, ParameterError.
+fn parameter_error() -> Result<bool, Refusal> {
+    let h = heard(0, 3, diagnosis(), &[0x44, 0x00, 0x00, 0x02, 0x12, 0x34])?;
+    Ok(h.diagnosis.flags == 0x0044 && h.answer.event == PeripheralEvent::ParameterError)
+}
+
+// 6: status 10, wrong length: due, bit cycled, no event, image kept.
+fn wrong_length() -> Result<bool, Refusal> {
+    let h = heard(1, 4, data(10), &[1, 2])?;
+    Ok(
+        h.asked == Some(Request::Data)
+            && h.after.diag_needed
+            && h.after.fcb != h.before.fcb
+            && h.answer.event == PeripheralEvent::NoEvent
+            && h.image == KEPT,
+    )
+}
+
+// 7: status 1, exchange: count 0, no event.
+fn no_data() -> Result<bool, Refusal> {
+    let h = heard(1, 4, data(1), &[1])?;
+    Ok(
+        h.asked == Some(Request::Data)
+            && h.answer.refusal == 0
+            && h.after.retry_count == 0
+            && h.answer.event == PeripheralEvent::NoEvent,
+    )
+}
+
+// What three turns answer with the balance silent.
+fn silent(limit: u8, steps: u8, times: [u64; 3]) -> Result<[TurnAnswer; 3], Refusal> {
+    let mut b = raised(limit, 0, steps, &[])?;
+    Ok([
+        b.turn(times[0]).answer,
+        b.turn(times[1]).answer,
+        b.turn(times[2]).answer,
+    ])
+}
+
+// 8: slot time 200, global control at 1,000: at 10,999 not due, at 11,000 due.
+fn control_due() -> Result<bool, Refusal> {
+    let [first, second, _] = silent(1, 0, [10999, 11000, 11001])?;
+    Ok(
+        asks(first) == Some(Request::Diagnosis)
+            && matches!(second.transmission, Transmission::Control(_)),
+    )
+}
+
+// 9: limit 1, silent in WaitForParam: sent, sent, Offline.
+fn silent_set_up() -> Result<bool, Refusal> {
+    let [first, second, third] = silent(1, 1, [1001, 1002, 1003])?;
+    Ok(
+        asks(first) == Some(Request::Parameters)
+            && asks(second) == Some(Request::Parameters)
+            && third.event == PeripheralEvent::Offline,
+    )
+}
+
+// 10: limit 0, Offline and silent: sent, Offline event, sent.
+fn silent_offline() -> Result<bool, Refusal> {
+    let [first, second, third] = silent(0, 0, [1001, 1002, 1003])?;
+    Ok(
+        asks(first) == Some(Request::Diagnosis)
+            && second.event == PeripheralEvent::Offline
+            && asks(third) == Some(Request::Diagnosis),
+    )
+}
+
+// 11: image 0 bytes, short confirmation: DataExchanged.
+fn empty_image() -> Result<bool, Refusal> {
+    let h = heard(0, 4, Telegram::ShortConfirmation, &[])?;
+    Ok(h.asked == Some(Request::Data) && h.answer.event == PeripheralEvent::DataExchanged)
+}
+
+// 12: image 1 byte: no event.
+fn one_byte_image() -> Result<bool, Refusal> {
+    let h = heard(1, 4, Telegram::ShortConfirmation, &[])?;
+    Ok(
+        h.asked == Some(Request::Data)
+            && h.answer.refusal == 0
+            && h.answer.event == PeripheralEvent::NoEvent,
+    )
+}
+
+// The add that comes after so many, all of which have to be done.
+fn add_after(count: u8) -> Result<PeripheralHandle, Refusal> {
+    let mut b = Bench::new(1);
+    for i in 0..count {
+        add_plain(&mut b, 10 + i % 64)?;
+    }
+    add_plain(&mut b, ADDRESS)
 }
 
 // 13: 32nd add done, 33rd is 5.
-fn full_table() -> bool {
-    if add_after(31) != 0 {
-        return false;
-    }
-    add_after(32) == 5
+fn full_table() -> Result<bool, Refusal> {
+    add_after(31)?;
+    Ok(add_after(32) == Err(Refusal::TableFull))
 }
 
-// The number of an add with so many bytes of user parameters.
-fn add_with(user: &[u8]) -> u8 {
-    let placed = add(empty(1), plain(ADDRESS, 0), user, &[0u8; 0]);
-    placed.refusal
+// An add with so many bytes of user parameters.
+fn add_with(user: &[u8]) -> Result<PeripheralHandle, Refusal> {
+    Bench::new(1).add(plain(ADDRESS, 0), user, &[])
 }
 
 // 14: user parameters 237 done, 238 is 7.
-fn long_parameters() -> bool {
-    if add_with(&[0u8; 237]) != 0 {
-        return false;
-    }
-    add_with(&[0u8; 238]) == 7
+fn long_parameters() -> Result<bool, Refusal> {
+    add_with(&[0; 237])?;
+    Ok(add_with(&[0; 238]) == Err(Refusal::TooLong))
 }
 
 // 15: limit 254 done, 255 is 1.
-fn highest_limit() -> bool {
-    let done = created(254);
-    if done.refusal != 0 {
-        return false;
-    }
-    let refused = created(255);
-    refused.refusal == 1
+fn highest_limit() -> Result<bool, Refusal> {
+    created(254).outcome?;
+    Ok(created(255).outcome == Err(Refusal::BadParameter))
 }
 
 // 16: two Offline in a turn: two mask bits. Two wrong replies leave both counts above a limit of 0.
-fn two_offline() -> bool {
-    let placed = add_plain(raised(0, 0, 0, &[0u8; 0]), ADDRESS + 1);
-    let both = placed.bench;
-    let one = asked(both, ADDRESS, Telegram::ShortConfirmation, &[0u8; 0]);
-    let two = asked(one, ADDRESS + 1, Telegram::ShortConfirmation, &[0u8; 0]);
-    let t = turn(two, CONTROL + 1);
-    if event(t) != WENT_OFFLINE {
-        return false;
-    }
-    t.answer.offline == 3
+fn two_offline() -> Result<bool, Refusal> {
+    let mut b = raised(0, 0, 0, &[])?;
+    add_plain(&mut b, ADDRESS + 1)?;
+    ask(&mut b, ADDRESS, Telegram::ShortConfirmation, &[]);
+    ask(&mut b, ADDRESS + 1, Telegram::ShortConfirmation, &[]);
+    let answer = b.turn(CONTROL + 1).answer;
+    Ok(answer.event == PeripheralEvent::Offline && answer.offline == 3)
 }
 
 // What goes out in Clear, after the global control, to a balance with the outputs 01 02.
-fn in_clear(fail_safe: bool) -> Seen {
+fn in_clear(fail_safe: bool) -> Result<Seen, Refusal> {
     let balance = Balance {
         address: ADDRESS,
         image: 0,
         outputs: 2,
-        fail_safe: fail_safe,
+        fail_safe,
     };
-    let added = add(empty(1), balance, &[0u8; 0], &TWO_OUTPUTS);
-    let placed = added.bench;
-    let control = turn(clear(brought(placed, 4)), CONTROL + 1);
-    let told = control.bench;
-    turn(told, CONTROL + 2)
+    let mut b = Bench::new(1);
+    b.add(balance, &[], &TWO_OUTPUTS)?;
+    b.outputs = OUTPUTS;
+    bring(&mut b, 4);
+    b.clear();
+    b.turn(CONTROL + 1);
+    Ok(b.turn(CONTROL + 2))
 }
 
 // 17: Clear, fail_safe, outputs 01 02: data request, payload empty.
-fn clear_signal() -> bool {
-    let t = in_clear(true);
-    if sent(t) != DATA {
-        return false;
-    }
-    is_payload(t, &[0u8; 0])
+fn clear_signal() -> Result<bool, Refusal> {
+    let t = in_clear(true)?;
+    Ok(asks(t.answer) == Some(Request::Data) && is_payload(t, &[]))
 }
 
 // 18: the same without fail_safe: payload 00 00.
-fn clear_zeros() -> bool {
-    let t = in_clear(false);
-    if sent(t) != DATA {
-        return false;
-    }
-    is_payload(t, &[0u8; 2])
+fn clear_zeros() -> Result<bool, Refusal> {
+    let t = in_clear(false)?;
+    Ok(asks(t.answer) == Some(Request::Data) && is_payload(t, &[0; 2]))
 }
 
-fn report(rt: &impl Print, number: u8, ok: bool) -> io::Result<()> {
-    if ok {
-        return println!(rt; "{number} ok");
-    }
-    println!(rt; "{number} bad")
+fn report(rt: &impl Print, number: usize, trial: Result<bool, Refusal>) -> io::Result<()> {
+    let word = if trial == Ok(true) { "ok" } else { "bad" };
+    println!(rt; "{number} {word}")
 }
 
 fn main(rt: HostRuntime) -> io::Result<()> {
-    report(&rt, 1, parameter_bytes())?;
-    report(&rt, 2, clean_diagnosis())?;
-    report(&rt, 3, asks_for_parameters())?;
-    report(&rt, 4, short_diagnosis())?;
-    report(&rt, 5, parameter_error())?;
-    report(&rt, 6, wrong_length())?;
-    report(&rt, 7, no_data())?;
-    report(&rt, 8, control_due())?;
-    report(&rt, 9, silent_set_up())?;
-    report(&rt, 10, silent_offline())?;
-    report(&rt, 11, empty_image())?;
-    report(&rt, 12, one_byte_image())?;
-    report(&rt, 13, full_table())?;
-    report(&rt, 14, long_parameters())?;
-    report(&rt, 15, highest_limit())?;
-    report(&rt, 16, two_offline())?;
-    report(&rt, 17, clear_signal())?;
-    report(&rt, 18, clear_zeros())
+    let trials = [
+        parameter_bytes(),
+        clean_diagnosis(),
+        asks_for_parameters(),
+        short_diagnosis(),
+        parameter_error(),
+        wrong_length(),
+        no_data(),
+        control_due(),
+        silent_set_up(),
+        silent_offline(),
+        empty_image(),
+        one_byte_image(),
+        full_table(),
+        long_parameters(),
+        highest_limit(),
+        two_offline(),
+        clear_signal(),
+        clear_zeros(),
+    ];
+    for (i, trial) in trials.into_iter().enumerate() {
+        report(&rt, i + 1, trial)?;
+    }
+    Ok(())
 }

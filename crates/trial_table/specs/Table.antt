@@ -1,7 +1,6 @@
 -- The table of the trial runs marked P: the number of each, its inputs, and the outcomes that 01 names for it.
 -- From 01, "Trial runs", 1 to 12, 17 and 18. States, bits and events of an outcome by the numbers of docs/SCRIPTS.md; a master of 255 is none.
-use Rattle.std.specs.Prelude.{ℕ, true, false, List, [], ◌∷◌}
-use Rattle.fdl.specs.declared.consts.Sap.TheVariants.{Absent, At}
+use Rattle.std.specs.Prelude.{ℕ, true, false, List, [], ◌∷◌, Some, None}
 use Rattle.fdl.specs.declared.telegram.Telegram.{Telegram}
 use Rattle.fdl.specs.declared.telegram.Telegram.TheVariants.{ShortConfirmation, Data}
 use Rattle.station.specs.declared.state.PeripheralState.TheVariants.{Offline, WaitForParam, ValidateConfig, PreDataExchange, DataExchange}
@@ -16,11 +15,11 @@ pub record TrialRow : Type 0 where
 
 -- a diagnosis reply
 abbrev pub diagnosis : Telegram
-diagnosis = Data (At 62) (At 60) 8
+diagnosis = Data (Some 62) (Some 60) 8
 
 -- a data reply with a status
 abbrev pub status : ℕ → Telegram
-status n = Data Absent Absent n
+status n = Data None None n
 
 -- the parameter bytes of every trial, before the user parameters
 abbrev pub seven : List ℕ → List ℕ

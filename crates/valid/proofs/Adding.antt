@@ -20,9 +20,8 @@ use Rattle.cycle.specs.Refusal.{address_refusal, length_refusal}
 use Rattle.cycle.proofs.Laws.{user-fits, config-fits, inputs-fit, outputs-fit, room_fits, add-slot, add-address, add_shared, add_lengths}
 use Rattle.master.specs.declared.unit.DpMaster.{DpMaster}
 use Rattle.master.specs.declared.add.Addition.{Addition}
-use Rattle.master.specs.declared.add.Added.{Added}
 use Rattle.master.specs.Pools.{Pools, pool_lengths}
-use Rattle.master.specs.Add.{newcomer, is_shared, room_refusal, used_after, unit_added, lengths_of, refusal_of, Adding}
+use Rattle.master.specs.Add.{Added, newcomer, is_shared, room_refusal, used_after, unit_added, lengths_of, refusal_of, Adding}
 use Rattle.master.proofs.Checks.{setup-room, input-room, output_room, diag_room, add_passed, room_passed}
 use Rattle.valid.specs.Valid.{Sound, Placed, Apart, Before, Fits, Valid, occupied, balance}
 use Rattle.valid.proofs.Stations.{sound_new}

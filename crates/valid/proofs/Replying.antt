@@ -17,7 +17,7 @@ use Rattle.payloads.specs.declared.request.Request.{Request}
 use Rattle.station.specs.Visit.{judged_as}
 use Rattle.peripheral.specs.declared.record.Peripheral.{Peripheral}
 use Rattle.peripheral.specs.Record.{blank, station_is}
-use Rattle.peripheral.specs.Response.{part_fits, payload_part, station_diagnosed, fits_image, answer_to, reply_of}
+use Rattle.peripheral.specs.Response.{part_fits, payload_stored, station_diagnosed, fits_image, answer_to, reply_of}
 use Rattle.peripheral.proofs.Laws.{answer_heard}
 use Rattle.peripheral_set.specs.Marks.{slots, next_after}
 use Rattle.cycle.specs.Seen.{index_of}
@@ -25,15 +25,14 @@ use Rattle.cycle.specs.State.{answered}
 use Rattle.cycle.specs.Refusal.{reply_refusal}
 use Rattle.cycle.proofs.Laws.{reply_open, reply-slot}
 use Rattle.master.specs.declared.unit.DpMaster.{DpMaster}
-use Rattle.master.specs.declared.receive.Answered.{Answered}
 use Rattle.master.specs.Unit.{state_is, balances_are}
-use Rattle.master.specs.Receive.{open_balance, open_request, reply_at, unit_replied, Received}
+use Rattle.master.specs.Receive.{Answered, open_balance, open_request, reply_at, unit_replied, Received}
 use Rattle.valid.specs.Valid.{Sound, Standing, Valid, occupied}
 use Rattle.valid.proofs.Stations.{sound_took, sound_steady, address_steady, heard_keeps}
 use Rattle.valid.proofs.Balances.{next_station, valid_set, open_there}
 
 -- what is stored fits its room
-stored-fits : (p : Peripheral) (payload : List ℕ) (diags : ℕ) → p.station.diag_len ≤ p.ranges.diag_room → (payload_part p payload diags).len ≤ p.ranges.diag_room
+stored-fits : (p : Peripheral) (payload : List ℕ) (diags : ℕ) → p.station.diag_len ≤ p.ranges.diag_room → payload_stored p payload diags ≤ p.ranges.diag_room
 unfolding part_fits
 stored-fits p payload diags h =
     let room = p.ranges.diag_room in
@@ -69,7 +68,7 @@ module _ (m : DpMaster) (t : Telegram) (payload inputs diags : List ℕ) (v : Va
       let h = answer_to (judged_as asked p.station) t p payload (length inputs) (length diags) in
       let is = sym (answer_heard (judged_as asked p.station) t p payload (length inputs) (length diags)) in
       let same : h.station.address ≡ p.station.address = subst (λ r. r.station.address ≡ p.station.address) is (heard_keeps _ (address_steady p.station.address) q p.station refl refl t took fits asked) in
-      let stored = (payload_part p payload (length diags)).len in
+      let stored = payload_stored p payload (length diags) in
       valid_set m v k (station_is h.station p) (answered next m.state) o
       (next_station m.parameters (get_or m.occupied k false) p h.station o
       (λ g.

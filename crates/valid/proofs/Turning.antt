@@ -4,6 +4,7 @@ use mathlib.Core.Path.{◌≡◌, refl, sym, ap, ◌∙◌, subst}
 use mathlib.Core.Bool.{Bool, true, false, false≢true}
 use mathlib.Core.Logic.{inl, inr}
 use mathlib.Core.List.{List}
+use Rattle.std.specs.Prelude.{Option, Some, None}
 use Prim.Native.Nat.{ℕ, zero, suc, ◌+◌, ◌-◌, ◌≤◌, ◌<◌}
 use native.Mathlib.Omega.{arith}
 use lib.ListN.{length, get_or, set, length-set}
@@ -25,7 +26,6 @@ use Rattle.peripheral.specs.Visit.{visit_action, visited_by}
 use Rattle.peripheral_set.specs.Marks.{slots}
 use Rattle.cycle.specs.declared.seen.Seen.{Seen}
 use Rattle.cycle.specs.declared.seen.Sent.{Sent}
-use Rattle.cycle.specs.declared.seen.Sent.TheVariants.{Nobody, To}
 use Rattle.cycle.specs.declared.state.Step.{Step}
 use Rattle.cycle.specs.declared.state.Step.TheVariants.{Halt, Control, Back, Visits}
 use Rattle.cycle.specs.Seen.{nothing_seen, seen_by, idle}
@@ -33,9 +33,8 @@ use Rattle.cycle.specs.State.{after_turn, start_of}
 use Rattle.cycle.specs.Refusal.{turn_refusal}
 use Rattle.cycle.proofs.Laws.{turn_not_early}
 use Rattle.master.specs.declared.unit.DpMaster.{DpMaster}
-use Rattle.master.specs.declared.turn.Turn.{Turn}
 use Rattle.master.specs.Unit.{state_is, balances_are}
-use Rattle.master.specs.Turn.{Swept, sweep_from, step_at, swept_by, unit_turned, Turned}
+use Rattle.master.specs.Turn.{Turn, Swept, sweep_from, step_at, swept_by, unit_turned, Turned}
 use Rattle.master.proofs.Sweep.{sweep_skip, sweep_visit, sweep_stopped, sweep_none}
 use Rattle.valid.specs.Valid.{Fits, Standing, Valid}
 use Rattle.valid.proofs.Stations.{sound_visit, sends_fit, action_fits}
@@ -51,14 +50,14 @@ visited_same : (limit : ℕ) (p : Peripheral) → (visited_by limit p).station.a
 visited_same limit p = ap (λ (s : Station). s.address) (visit_keeps (visit_action limit p) p.station)
 
 -- what was sent went to an occupied slot, and fits its balance
-abbrev SentTo : List Bool → List Peripheral → Sent → Type 0
-SentTo marks ps Nobody = ◌≡◌ {A = ℕ} 0 0
-SentTo marks ps (To slot k) = (get_or marks slot false ≡ true) × Fits (get_or ps slot blank).station (kind_number k)
+abbrev SentTo : List Bool → List Peripheral → Option Sent → Type 0
+SentTo marks ps None = ◌≡◌ {A = ℕ} 0 0
+SentTo marks ps (Some sent) = (get_or marks sent.slot false ≡ true) × Fits (get_or ps sent.slot blank).station (kind_number sent.kind)
 
 module _ (marks : List Bool) where
-  idle_sent : (ps : List Peripheral) (sent : Sent) → idle sent ≡ true → SentTo marks ps sent
-  idle_sent ps Nobody e = refl
-  idle_sent ps (To slot k) e = absurd (false≢true e)
+  idle_sent : (ps : List Peripheral) (sent : Option Sent) → idle sent ≡ true → SentTo marks ps sent
+  idle_sent ps None e = refl
+  idle_sent ps (Some sent) e = absurd (false≢true e)
 
   visit_sent : (w : Visited) (i : ℕ) (seen : Seen) (ps : List Peripheral) → let p = get_or ps i blank in
       get_or marks i false ≡ true → i < length ps → idle seen.sent ≡ true → T (sends_fit (state_of p.station.state) p.station.diag_needed w)
@@ -105,15 +104,15 @@ module _ (u : Parameters) (marks : List Bool) where
 -- ---- the state
 
 module _ (m : DpMaster) (v : Valid m) (time : ℕ) (l : m.state.last_turn ≤ time) where
-  standing-after : (step : Step) (sent : Sent) (ps : List Peripheral) → SentTo m.occupied ps sent → Standing (state_is (after_turn step sent time m.state) (balances_are ps m))
+  standing-after : (step : Step) (sent : Option Sent) (ps : List Peripheral) → SentTo m.occupied ps sent → Standing (state_is (after_turn step sent time m.state) (balances_are ps m))
   standing-after Halt sent ps h = record { operating = v.standing.operating; place = v.standing.place; times = omega (arith, v.standing.times); request = inl (record { slot = refl; kind = refl }) }
   standing-after Control sent ps h = record { operating = v.standing.operating; place = v.standing.place; times = omega arith; request = inl (record { slot = refl; kind = refl }) }
   standing-after Back sent ps h = record { operating = v.standing.operating; place = omega arith; times = omega (arith, v.standing.times); request = inl (record { slot = refl; kind = refl }) }
-  standing-after Visits Nobody ps h = record { operating = v.standing.operating; place = omega arith; times = omega (arith, v.standing.times); request = inl (record { slot = refl; kind = refl }) }
-  standing-after Visits (To slot k) ps h =
+  standing-after Visits None ps h = record { operating = v.standing.operating; place = omega arith; times = omega (arith, v.standing.times); request = inl (record { slot = refl; kind = refl }) }
+  standing-after Visits (Some sent) ps h =
       record {
         operating = v.standing.operating;
-        place = marked_below m v slot h.0;
+        place = marked_below m v sent.slot h.0;
         times = omega (arith, v.standing.times);
         request = inr (record { place = refl; going = refl; there = h.0; fit = h.1 });
       }

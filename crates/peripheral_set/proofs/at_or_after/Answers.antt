@@ -9,7 +9,7 @@ use Rattle.std.proofs.lemmas.Iterator.Adapters.{option_map_id}
 use borrow.Author.Tests.{tests}
 use native.Mathlib.Omega.{arith}
 use Rattle.peripheral_set.specs.Marks.{slots, slot_or_none}
-use Rattle.peripheral_set.proofs.Laws.{search_here, search_on, search_none, search_past, slot_some, find_mark}
+use Rattle.peripheral_set.proofs.Laws.{search_here, search_on, search_none, search_over, slot_some, find_mark}
 use Rattle.peripheral_set.proofs.at_or_after.Goals as goal
 
 pub returns-then-place-ge-SLOTS : goal.returns-then-place-ge-SLOTS
@@ -27,7 +27,7 @@ loop-at-preserved c = let a = c.args in
     let l = c.loop-at in
     let eight : l.at + 8 - l.at ≡ 8 = omega arith in
     let empty : list_any (λ m. beq m true) (take (l.at + 8 - l.at) (drop l.at a.marks.now)) ≡ false = sym c.contains.ensures.value ∙ c.if-contains.false in
-    (refl, sym (search_past slots slots a.marks.now 8 l.at (omega arith) (omega arith) (rw eight at empty)) ∙ l.invariant.1)
+    (refl, sym (search_over slots slots a.marks.now 8 l.at (omega arith) (omega arith) (rw eight at empty)) ∙ l.invariant.1)
 
 pub returns : goal.returns
 returns c = let marks = c.args.marks.now in

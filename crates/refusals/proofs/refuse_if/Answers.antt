@@ -1,5 +1,5 @@
 -- `refuse_if` meets its contract: the refusal of a refusal's number is itself.
-use mathlib.Core.Path.{refl, sym}
+use mathlib.Core.Path.{sym}
 use Rattle.refusals.proofs.Laws.{refused, done}
 use Rattle.refusals.proofs.refuse_if.Goals as goal
 

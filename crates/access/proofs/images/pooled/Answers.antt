@@ -1,5 +1,5 @@
 -- `pooled` meets its contract: refused by the pool, or what the handle finds.
-use mathlib.Core.Path.{refl, sym, ◌∙◌}
+use mathlib.Core.Path.{sym, ◌∙◌}
 use Rattle.refusals.proofs.Laws.{done_is, given_up}
 use Rattle.access.proofs.Facts.{pool_right, pool_wrong}
 use Rattle.access.proofs.images.pooled.Goals as goal

@@ -1,5 +1,5 @@
 -- `find` meets its contract: the slot is occupied or not.
-use mathlib.Core.Path.{refl, sym, ◌∙◌}
+use mathlib.Core.Path.{sym, ◌∙◌}
 use Rattle.refusals.proofs.Laws.{done_is, given_here, given_up}
 use Rattle.access.proofs.Facts.{found}
 use Rattle.access.proofs.lookup.find.Goals as goal

@@ -1,6 +1,6 @@
 -- `fill` meets its contract: where nothing is sent, nothing is filled.
 use mathlib.Core.Path.{refl}
-use Rattle.answers.proofs.Fills.{nothing_filled, filled_by}
+use Rattle.answers.proofs.Fills.{nothing_filled}
 use Rattle.answers.proofs.turn.fill.Goals as goal
 
 pub returns-in-Halt : goal.returns-in-Halt

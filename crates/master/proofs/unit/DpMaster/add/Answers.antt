@@ -1,6 +1,6 @@
 -- `add` meets its contract: refused before its ranges have a place, refused by them, or done.
 -- The idea: what was asked for is what the definitions read, and the new balance is the definitions' own.
-use mathlib.Core.Path.{◌≡◌, refl, sym, ◌∙◌}
+use mathlib.Core.Path.{refl, sym, ◌∙◌}
 use native.Mathlib.Omega.{arith}
 use borrow.Author.Rules.{rules}
 use Rattle.refusals.proofs.Laws.{passed_up, done_is, told}

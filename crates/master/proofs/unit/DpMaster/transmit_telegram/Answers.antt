@@ -1,13 +1,11 @@
 -- `transmit_telegram` meets its contract: refused, or the visits and what is put together of them.
 use mathlib.Core.Path.{◌≡◌, refl, sym, ap, ◌∙◌}
-use native.Mathlib.Omega.{arith}
-use borrow.Author.Rules.{rules}
 use Rattle.refusals.proofs.Laws.{done_is}
 use Rattle.cycle.proofs.Laws.{turn-told}
 use Rattle.answers.specs.Turn.{refused_turn}
 use Rattle.master.specs.Unit.{state_is}
 use Rattle.master.specs.Turn.{swept_by}
-use Rattle.master.proofs.Sweep.{going_begins, going_all, going_falls, going_on, going_ends, at_hand, same_marks}
+use Rattle.master.proofs.Sweep.{going_begins, going_all, going_falls, going_on, going_ends, at_hand}
 use Rattle.master.proofs.Turns.{turn_refused, turn-accepted}
 use Rattle.master.proofs.unit.DpMaster.transmit_telegram.Goals as goal
 
