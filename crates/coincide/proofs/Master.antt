@@ -41,7 +41,7 @@ given_back : (z : Result PeripheralHandle Refusal) → given (number_of z) (hand
 given_back (Ok h) = done
 given_back (Err r) = given_err _ tt no_handle (refused r)
 
-same_handle : (z y : Result PeripheralHandle Refusal) → number_of z ≡ number_of y → handle_given z ≡ handle_given y → z ≡ y
+pub same_handle : (z y : Result PeripheralHandle Refusal) → number_of z ≡ number_of y → handle_given z ≡ handle_given y → z ≡ y
 same_handle z y n h = sym (given_back z) ∙ (rw (n, h) refl) ∙ given_back y
 
 -- and that of a call that is done or not from what it leaves
