@@ -32,11 +32,10 @@ impl Run {
         ensures run { self.new ≡ unit_is self.new.unit self.old }
         ensures others { arrays.new ≡ pools_are (pools_held arrays.new) arrays.old }
     {
-        let l = self.lent;
-        let s = front(l.setup, arrays.setup.len());
-        let i = front(l.inputs, arrays.inputs.len());
-        let q = front(l.outputs, arrays.outputs.len());
-        let d = front(l.diags, arrays.diags.len());
+        let s = front(self.lent.setup, arrays.setup.len());
+        let i = front(self.lent.inputs, arrays.inputs.len());
+        let q = front(self.lent.outputs, arrays.outputs.len());
+        let d = front(self.lent.diags, arrays.diags.len());
         self.unit.add(
             addition,
             user,
@@ -54,10 +53,10 @@ impl Run {
         ensures run { self.new ≡ unit_is self.new.unit self.old }
         ensures others { arrays.new ≡ payload_is arrays.new.payload.now arrays.old }
     {
-        let l = self.lent;
-        let s = front(l.setup, arrays.setup.len());
-        let o = front(l.outputs, arrays.outputs.len());
-        let k = front(l.payload, arrays.payload.len());
+        let s = front(self.lent.setup, arrays.setup.len());
+        let o = front(self.lent.outputs, arrays.outputs.len());
+        let k = front(self.lent.payload, arrays.payload.len());
+        // each front by `&mut`, read or written: of two fields behind one `&mut` the check covers no `&` beside a `&mut`
         self.unit.transmit_telegram(
             time,
             high_prio_only,
@@ -79,9 +78,8 @@ impl Run {
         ensures run { self.new ≡ unit_is self.new.unit self.old }
         ensures others { arrays.new ≡ pools_are (record (pools_held arrays.old) { inputs = arrays.new.inputs.now; diags = arrays.new.diags.now }) arrays.old }
     {
-        let l = self.lent;
-        let i = front(l.inputs, arrays.inputs.len());
-        let d = front(l.diags, arrays.diags.len());
+        let i = front(self.lent.inputs, arrays.inputs.len());
+        let d = front(self.lent.diags, arrays.diags.len());
         self.unit.receive_reply(
             address,
             telegram,
