@@ -44,8 +44,8 @@ use Rattle.script_driver.proofs.arrays.Arrays.fill_payload.Kinds as K·arrays-Ar
 use Rattle.script_driver.proofs.arrays.Arrays.fill_payload.Reads as R·arrays-Arrays-fill-payload
 use Rattle.script_driver.proofs.arrays.Arrays.clear.Kinds as K·arrays-Arrays-clear
 use Rattle.script_driver.proofs.arrays.Arrays.clear.Reads as R·arrays-Arrays-clear
-use Rattle.script_driver.proofs.arrays.Arrays.sums.Kinds as K·arrays-Arrays-sums
-use Rattle.script_driver.proofs.arrays.Arrays.sums.Reads as R·arrays-Arrays-sums
+use Rattle.script_driver.proofs.arrays.sums.Kinds as K·arrays-sums
+use Rattle.script_driver.proofs.arrays.sums.Reads as R·arrays-sums
 use Rattle.script_driver.proofs.run.Run.add.Kinds as K·run-Run-add
 use Rattle.script_driver.proofs.run.Run.add.Reads as R·run-Run-add
 use Rattle.script_driver.proofs.run.Run.turn.Kinds as K·run-Run-turn
@@ -134,14 +134,14 @@ arrays-Arrays-fill_payload κs a z y e f p q = let b : e.0.now.payload.now ≡ f
 pub arrays-Arrays-clear : Coincide 2 K·arrays-Arrays-clear.ps K·arrays-Arrays-clear.r R·arrays-Arrays-clear.Learnt (λ κs z y e f. e.0.now ≡ f.0.now)
 arrays-Arrays-clear κs a z y e f p q = pools_left (payload_is e.0.now.payload.now (list_is e.0.now.list.now a.0.now)) e.0.now f.0.now _ _ p.1.1 (q.1.1 ∙ ap (pools_are (pools_held f.0.now)) (sym (payload_list_same a.0.now (same p.1.0.0 q.1.0.0) (same p.1.0.1 q.1.0.1)))) (pools_same e.0.now f.0.now (same p.0.setup_pool q.0.setup_pool) (same p.0.input_pool q.0.input_pool) (same p.0.output_pool q.0.output_pool) (same p.0.diag_pool q.0.diag_pool))
 
-pub arrays-Arrays-sums : Coincide 2 K·arrays-Arrays-sums.ps K·arrays-Arrays-sums.r R·arrays-Arrays-sums.Learnt (λ κs z y e f. z ≡ y)
-arrays-Arrays-sums κs a z y e f p q = same p q
+pub arrays-sums : Coincide 4 K·arrays-sums.ps K·arrays-sums.r R·arrays-sums.Learnt (λ κs z y e f. z ≡ y)
+arrays-sums κs a z y e f p q = same p q
 
 pub run-Run-add : Coincide 5 K·run-Run-add.ps K·run-Run-add.r R·run-Run-add.Learnt (λ κs z y e f. (z ≡ y) × (e.0.now ≡ f.0.now) × (e.1.1.1.1.0.now ≡ f.1.1.1.1.0.now))
 run-Run-add κs a z y e f p q = (same_handle z y (same p.0.call.refusal q.0.call.refusal) (same p.0.call.handle q.0.call.handle), run_left a.0.now e.0.now f.0.now p.1.0 q.1.0 (same p.0.call.after q.0.call.after), pools_left a.1.1.1.1.0.now e.1.1.1.1.0.now f.1.1.1.1.0.now _ _ p.1.1 q.1.1 (pools_same e.1.1.1.1.0.now f.1.1.1.1.0.now (whole a.0.now.lent.setup (ap (λ (x : Pools). x.setup) (same p.0.call.written q.0.call.written)) (same p.0.setup_pool q.0.setup_pool)) (whole a.0.now.lent.inputs (ap (λ (x : Pools). x.inputs) (same p.0.call.written q.0.call.written)) (same p.0.input_pool q.0.input_pool)) (whole a.0.now.lent.outputs (ap (λ (x : Pools). x.outputs) (same p.0.call.written q.0.call.written)) (same p.0.output_pool q.0.output_pool)) (whole a.0.now.lent.diags (ap (λ (x : Pools). x.diags) (same p.0.call.written q.0.call.written)) (same p.0.diag_pool q.0.diag_pool))))
 
-pub run-Run-turn : Coincide 3 K·run-Run-turn.ps K·run-Run-turn.r R·run-Run-turn.Learnt (λ κs z y e f. (z ≡ y) × (e.0.now ≡ f.0.now) × (e.1.1.1.0.now ≡ f.1.1.1.0.now))
-run-Run-turn κs a z y e f p q = (same p.0.call.answer q.0.call.answer, run_left a.0.now e.0.now f.0.now p.1.0 q.1.0 (same p.0.call.after q.0.call.after), p.1.1 ∙ ap (λ (x : List ℕ). payload_is x a.1.1.1.0.now) (whole a.0.now.lent.payload (same p.0.call.bytes q.0.call.bytes) (same p.0.payload_array q.0.payload_array)) ∙ sym q.1.1)
+pub run-Run-turn : Coincide 4 K·run-Run-turn.ps K·run-Run-turn.r R·run-Run-turn.Learnt (λ κs z y e f. (z ≡ y) × (e.0.now ≡ f.0.now) × (e.1.1.1.1.1.0.now ≡ f.1.1.1.1.1.0.now))
+run-Run-turn κs a z y e f p q = (same p.0.call.answer q.0.call.answer, run_left a.0.now e.0.now f.0.now p.1 q.1 (same p.0.call.after q.0.call.after), whole a.0.now.lent.payload (same p.0.call.bytes q.0.call.bytes) (same p.0.payload_array q.0.payload_array))
 
 pub run-Run-reply : Coincide 4 K·run-Run-reply.ps K·run-Run-reply.r R·run-Run-reply.Learnt (λ κs z y e f. (z ≡ y) × (e.0.now ≡ f.0.now) × (e.1.1.1.1.0.now ≡ f.1.1.1.1.0.now))
 run-Run-reply κs a z y e f p q = let i : e.1.1.1.1.0.now.inputs.now ≡ f.1.1.1.1.0.now.inputs.now = whole a.0.now.lent.inputs (same p.0.call.input_pool q.0.call.input_pool) (same p.0.input_pool q.0.input_pool) in

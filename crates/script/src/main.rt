@@ -39,6 +39,33 @@ fn ends_lending(call: Call) -> bool {
     )
 }
 
+// T. Each slice by `&mut`, read or written: of two fields behind one `&mut` the check covers no `&` beside a `&mut`.
+fn turn(
+    run: &mut Run,
+    time: u64,
+    high_prio_only: bool,
+    setup: &mut [u8],
+    outputs: &mut [u8],
+    payload: &mut [u8],
+    out: &mut Text,
+) {
+    let made = run.turn(time, high_prio_only, setup, outputs, payload);
+    script_answers::turn(out, made, parts::part(payload, 0, made.len));
+}
+
+// D, with the slices as in T.
+fn dump(
+    run: &Run,
+    setup: &mut [u8],
+    inputs: &mut [u8],
+    outputs: &mut [u8],
+    diags: &mut [u8],
+    out: &mut Text,
+) {
+    let sums = script_driver::arrays::sums(setup, inputs, outputs, diags);
+    script_dump::line(out, &run.unit, sums);
+}
+
 // A call is made and answered; its bytes stand at the front of `a`, in an add the configuration at that of `b`.
 fn answer(
     run: &mut Run,
@@ -87,9 +114,15 @@ fn answer(
             time,
             high_prio_only,
         } => {
-            let made = run.turn(time, high_prio_only, arrays);
-            let payload = parts::part(arrays.payload, 0, made.len);
-            script_answers::turn(out, made, payload);
+            turn(
+                run,
+                time,
+                high_prio_only,
+                arrays.setup,
+                arrays.outputs,
+                arrays.payload,
+                out,
+            );
         }
         Call::Reply {
             address,
@@ -144,8 +177,14 @@ fn answer(
             }
         }
         Call::Dump => {
-            let sums = arrays.sums();
-            script_dump::line(out, &run.unit, sums);
+            dump(
+                run,
+                arrays.setup,
+                arrays.inputs,
+                arrays.outputs,
+                arrays.diags,
+                out,
+            );
         }
         Call::Payload => {
             let sum = script_fields::write::sum(arrays.payload);

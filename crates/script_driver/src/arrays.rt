@@ -114,16 +114,16 @@ impl Arrays<'_> {
         fill(self.payload, 0);
         fill(self.list, 0);
     }
+}
 
-    // D: the sums of the four whole pool arrays.
-    pub fn sums(&self) -> Sums
-        ensures { result ≡ sums_of self.now.setup.now self.now.inputs.now self.now.outputs.now self.now.diags.now }
-    {
-        Sums {
-            setup: write::sum(self.setup),
-            inputs: write::sum(self.inputs),
-            outputs: write::sum(self.outputs),
-            diags: write::sum(self.diags),
-        }
+// D: the sums of the four whole pool arrays.
+pub fn sums(setup: &[u8], inputs: &[u8], outputs: &[u8], diags: &[u8]) -> Sums
+    ensures { result ≡ sums_of setup.now inputs.now outputs.now diags.now }
+{
+    Sums {
+        setup: write::sum(setup),
+        inputs: write::sum(inputs),
+        outputs: write::sum(outputs),
+        diags: write::sum(diags),
     }
 }

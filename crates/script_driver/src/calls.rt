@@ -48,21 +48,25 @@ impl Run {
     }
 
     // T: the unit's `transmit_telegram`, lent the front of the set-up, output and payload arrays.
-    pub fn turn(&mut self, time: u64, high_prio_only: bool, arrays: &mut Arrays) -> TurnAnswer
-        ensures call { LentTurn self.old time high_prio_only arrays.old.setup.now arrays.old.outputs.now arrays.old.payload.now arrays.new.payload.now (record { master = self.new.unit; answer = result }) }
+    pub fn turn(
+        &mut self,
+        time: u64,
+        high_prio_only: bool,
+        setup: &[u8],
+        outputs: &[u8],
+        payload: &mut [u8],
+    ) -> TurnAnswer
+        ensures call { LentTurn self.old time high_prio_only setup.now outputs.now payload.old payload.new (record { master = self.new.unit; answer = result }) }
         ensures run { self.new ≡ unit_is self.new.unit self.old }
-        ensures others { arrays.new ≡ payload_is arrays.new.payload.now arrays.old }
     {
-        let s = front(self.lent.setup, arrays.setup.len());
-        let o = front(self.lent.outputs, arrays.outputs.len());
-        let k = front(self.lent.payload, arrays.payload.len());
-        // each front by `&mut`, read or written: of two fields behind one `&mut` the check covers no `&` beside a `&mut`
+        let l = self.lent;
+        let k = front(l.payload, payload.len());
         self.unit.transmit_telegram(
             time,
             high_prio_only,
-            &mut arrays.setup[..s],
-            &mut arrays.outputs[..o],
-            &mut arrays.payload[..k],
+            lent(setup, l.setup),
+            lent(outputs, l.outputs),
+            &mut payload[..k],
         )
     }
 
