@@ -85,8 +85,7 @@ pub fn fill(
     ensures { Filling step sent p u (payload_sent step sent p u clear setup.now outputs.now) buf.old buf.new result }
 {
     match step {
-        Step::Halt => Filled::nothing(),
-        Step::Back => Filled::nothing(),
+        Step::Halt | Step::Back => Filled::nothing(),
         Step::Control => Filled {
             len: payloads::write::write_control(clear, buf),
             transmission: Transmission::Control(payloads::request::control_header(u.address)),

@@ -165,16 +165,6 @@ fn line(s: &[u8], out: &mut Text) {
     out.put(b'\n');
 }
 
-// The line without its newline.
-fn trimmed(s: &[u8]) -> &[u8] {
-    if 0 < s.len() {
-        if s[s.len() - 1] == b'\n' {
-            return parts::part(s, 0, s.len() - 1);
-        }
-    }
-    parts::part(s, 0, s.len())
-}
-
 // Reads until the buffer is full or the input ends, and answers how many bytes came.
 fn read_full(reader: &mut impl Read, buf: &mut [u8]) -> io::Result<usize>
     ensures { IfOk result (λ n. n ≤ length buf.new) }
@@ -198,7 +188,8 @@ fn main(rt: HostRuntime) -> io::Result<()> {
         out: &mut text,
         at: 0,
     };
-    line(trimmed(parts::part(&buf, 0, n)), &mut out);
+    let input = &buf[..n];
+    line(input.strip_suffix(b"\n").unwrap_or(input), &mut out);
     let end = out.at;
     rt.write_all(parts::part(&text, 0, end))
 }
