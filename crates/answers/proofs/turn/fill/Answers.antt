@@ -7,8 +7,8 @@ use Rattle.answers.proofs.turn.fill.Goals as goal
 pub returns-in-Halt : goal.returns-in-Halt
 returns-in-Halt c = let a = c.args in
     elim c.in-Halt.is [
-    inl p ↦ rw p (nothing_filled _ a.sent a.p a.u a.buf.now c.nothing.result refl c.nothing.ensures)
-    | inr p ↦ rw p (nothing_filled _ a.sent a.p a.u a.buf.now c.nothing.result refl c.nothing.ensures)
+      | inl p ↦ rw p (nothing_filled _ a.sent a.p a.u a.buf.now c.nothing.result refl c.nothing.ensures)
+      | inr p ↦ rw p (nothing_filled _ a.sent a.p a.u a.buf.now c.nothing.result refl c.nothing.ensures)
     ]
 
 pub returns-in-None : goal.returns-in-None
