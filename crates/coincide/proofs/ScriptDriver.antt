@@ -172,10 +172,10 @@ run-Run-extended κs a z y e f p q = itself_same p q
 pub run-Run-listing : Coincide 2 K·run-Run-listing.ps K·run-Run-listing.r R·run-Run-listing.Learnt (λ κs z y e f. (z ≡ y) × (e.1.0.now ≡ f.1.0.now))
 run-Run-listing κs a z y e f p q = (same p.answer q.answer, same p.bytes q.bytes)
 
-pub pieces-Partial-append : Coincide 3 K·pieces-Partial-append.ps K·pieces-Partial-append.r R·pieces-Partial-append.Learnt (λ κs z y e f. e.0.now ≡ f.0.now)
-pieces-Partial-append κs a z y e f p q = same p.came q.came
+pub pieces-Partial-append : Coincide 3 K·pieces-Partial-append.ps K·pieces-Partial-append.r R·pieces-Partial-append.Learnt (λ κs z y e f. (e.0.now ≡ f.0.now) × (e.1.1.0.now ≡ f.1.1.0.now))
+pieces-Partial-append κs a z y e f p q = (same p.came q.came, same p.bytes q.bytes)
 
-pub pieces-Partial-unfinished : Coincide 2 K·pieces-Partial-unfinished.ps K·pieces-Partial-unfinished.r R·pieces-Partial-unfinished.Learnt (λ κs z y e f. z ≡ y)
+pub pieces-Partial-unfinished : Coincide 1 K·pieces-Partial-unfinished.ps K·pieces-Partial-unfinished.r R·pieces-Partial-unfinished.Learnt (λ κs z y e f. z ≡ y)
 pieces-Partial-unfinished κs a z y e f p q = same p q
 
 pub pieces-line_end : Coincide 1 K·pieces-line-end.ps K·pieces-line-end.r R·pieces-line-end.Learnt (λ κs z y e f. z ≡ y)

@@ -216,8 +216,10 @@ fn flushed(rt: &impl Print, out: &mut Text) -> io::Result<()>
 struct Driver<'a> {
     run: Run,
     arrays: Arrays<'a>,
-    // What came of a line.
-    came: Partial<'a>,
+    // The array of a line, what came of it at the front.
+    text: &'a mut [u8],
+    // How much of the line came.
+    came: Partial,
 }
 
 impl Driver<'_> {
@@ -226,7 +228,7 @@ impl Driver<'_> {
         let mut a = [0u8; 255];
         let mut b = [0u8; 255];
         let filled = self.came.filled;
-        let asked = script_lines::parse(parts::part(self.came.line, 0, filled), &mut a, &mut b);
+        let asked = script_lines::parse(parts::part(self.text, 0, filled), &mut a, &mut b);
         match script_driver::run::call_made(self.run.made, self.came.long, asked) {
             Some(call) => {
                 answer(&mut self.run, &mut self.arrays, call, &a, &b, out);
@@ -245,7 +247,7 @@ impl Driver<'_> {
         let mut i = 0;
         while i < chunk.len() {
             let end = script_driver::pieces::line_end(chunk, i);
-            self.came.append(parts::part(chunk, i, end - i));
+            self.came.append(parts::part(chunk, i, end - i), self.text);
             if end < chunk.len() {
                 flushed(rt, out)?;
                 self.line(out);
@@ -296,14 +298,14 @@ fn main(rt: HostRuntime) -> io::Result<()> {
         list: &mut [0; 120],
     };
     let came = Partial {
-        // a line has at most 2,000 bytes with its newline
-        line: &mut [0; 1999],
         filled: 0,
         long: false,
     };
     let mut driver = Driver {
         run: Run::empty(),
         arrays,
+        // a line has at most 2,000 bytes with its newline
+        text: &mut [0; 1999],
         came,
     };
     let mut out = Text {
