@@ -101,7 +101,15 @@ fn answer(
         } => {
             let user = parts::part(a, 0, user);
             let config = parts::part(b, 0, config);
-            match run.add(addition, user, config, arrays) {
+            match run.add(
+                addition,
+                user,
+                config,
+                arrays.setup,
+                arrays.inputs,
+                arrays.outputs,
+                arrays.diags,
+            ) {
                 Ok(handle) => script_answers::added(out, 0, handle),
                 Err(refusal) => script_answers::numbered(out, b'A', u64::from(u8::from(refusal))),
             }
@@ -130,7 +138,7 @@ fn answer(
             len,
         } => {
             let payload = parts::part(a, 0, len);
-            let answered = run.reply(address, telegram, payload, arrays);
+            let answered = run.reply(address, telegram, payload, arrays.inputs, arrays.diags);
             script_answers::reply(out, answered);
         }
         Call::Reset { handle, address } => {
