@@ -102,7 +102,7 @@ pub fn fill_payload(b: u8, payload: &mut [u8], list: &mut [u8])
 }
 
 impl Arrays<'_> {
-    // P.
+    // P: `fill_pools` of these arrays.
     pub fn fill_pools(&mut self, b: u8)
         ensures bytes { PoolsFilled b self.old.setup.now self.old.inputs.now self.old.outputs.now self.old.diags.now self.new.setup.now self.new.inputs.now self.new.outputs.now self.new.diags.now }
         ensures others { self.new ≡ pools_are (pools_held self.new) self.old }
@@ -110,7 +110,7 @@ impl Arrays<'_> {
         fill_pools(b, self.setup, self.inputs, self.outputs, self.diags);
     }
 
-    // F.
+    // F: `fill_payload` of these arrays.
     pub fn fill_payload(&mut self, b: u8)
         ensures bytes { PayloadFilled b self.old.payload.now self.old.list.now self.new.payload.now self.new.list.now }
         ensures others { self.new ≡ payload_is self.new.payload.now (list_is self.new.list.now self.old) }
