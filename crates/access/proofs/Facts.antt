@@ -14,7 +14,7 @@ use Rattle.parts.specs.Parts.{inside, View, view_at, Itself, put_in}
 use Rattle.parts.proofs.Laws.{length_part, inside-leb}
 use Rattle.refusals.specs.declared.Refusal.{Refusal}
 use Rattle.refusals.specs.Table.{lent_row, write_row, said, or_else, outcome, given}
-use Rattle.refusals.proofs.Laws.{both}
+use Rattle.refusals.proofs.Laws.{passed, both}
 use Rattle.peripheral_set.specs.declared.PeripheralHandle.{PeripheralHandle}
 use Rattle.peripheral_set.specs.Marks.{is_occupied, handle_refusal}
 use Rattle.master.specs.declared.unit.DpMaster.{DpMaster}
@@ -56,11 +56,7 @@ found m h z = rw (occupied_by (is_occupied m.occupied h.slot) z) refl
 
 -- a lent pool that is as long as it should be leaves the number to the handle
 pub pool_right : (lent pool : ℕ) (h : PeripheralHandle) (marks : List Bool) → said (lent_row lent pool) ≡ 0 → pooled_refusal lent pool h marks ≡ handle_refusal h marks
-pool_right lent pool h marks z = by (not (eqb lent pool)) z
-  where
-    by : (b : Bool) → ◌≡◌ {A = ℕ} (cond b 2 0) 0 → cond b 2 (handle_refusal h marks) ≡ handle_refusal h marks
-    by true e = absurd (omega arith)
-    by false e = refl
+pool_right lent pool h marks z = rw (passed (lent_row lent pool ∷ []) refl z 0) refl
 
 -- and one that is not is the answer
 pub pool_wrong : (lent pool : ℕ) (h : PeripheralHandle) (marks : List Bool) {e : Refusal} → outcome (said (lent_row lent pool)) ≡ Err e → outcome (pooled_refusal lent pool h marks) ≡ Err e

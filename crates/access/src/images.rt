@@ -130,7 +130,11 @@ pub fn write_outputs(
 ) -> Result<(), Refusal>
     ensures { OutputsWritten m.now handle bytes.now outputs.old outputs.new (number_of result) }
 {
-    let found = pooled(m, handle, outputs.len(), m.parameters.output_pool)?;
+    // A match and no `?`, so that the refusal which is handed on stands in the text.
+    let found = match pooled(m, handle, outputs.len(), m.parameters.output_pool) {
+        Ok(found) => found,
+        Err(refusal) => return Err(refusal),
+    };
     let len = usize::from(found.ranges.output_len);
     refusals::write(bytes.len(), len)?;
     parts::copy_at(outputs, usize::from(found.ranges.outputs), len, bytes);

@@ -38,6 +38,10 @@ use Rattle.script_driver.proofs.arrays.put_entries.Kinds as K·arrays-put-entrie
 use Rattle.script_driver.proofs.arrays.put_entries.Reads as R·arrays-put-entries
 use Rattle.script_driver.proofs.pieces.line_end.Kinds as K·pieces-line-end
 use Rattle.script_driver.proofs.pieces.line_end.Reads as R·pieces-line-end
+use Rattle.script_driver.proofs.arrays.fill_pools.Kinds as K·arrays-fill-pools
+use Rattle.script_driver.proofs.arrays.fill_pools.Reads as R·arrays-fill-pools
+use Rattle.script_driver.proofs.arrays.fill_payload.Kinds as K·arrays-fill-payload
+use Rattle.script_driver.proofs.arrays.fill_payload.Reads as R·arrays-fill-payload
 use Rattle.script_driver.proofs.arrays.Arrays.fill_pools.Kinds as K·arrays-Arrays-fill-pools
 use Rattle.script_driver.proofs.arrays.Arrays.fill_pools.Reads as R·arrays-Arrays-fill-pools
 use Rattle.script_driver.proofs.arrays.Arrays.fill_payload.Kinds as K·arrays-Arrays-fill-payload
@@ -125,6 +129,12 @@ arrays-fill_list κs a z y e f p q = same p q
 pub arrays-put_entries : Coincide 2 K·arrays-put-entries.ps K·arrays-put-entries.r R·arrays-put-entries.Learnt (λ κs z y e f. (z ≡ y) × (e.1.0.now ≡ f.1.0.now))
 arrays-put_entries κs a z y e f p q = (same p.len q.len, same p.bytes q.bytes)
 
+pub arrays-fill_pools : Coincide 4 K·arrays-fill-pools.ps K·arrays-fill-pools.r R·arrays-fill-pools.Learnt (λ κs z y e f. (e.1.0.now ≡ f.1.0.now) × (e.1.1.0.now ≡ f.1.1.0.now) × (e.1.1.1.0.now ≡ f.1.1.1.0.now) × (e.1.1.1.1.0.now ≡ f.1.1.1.1.0.now))
+arrays-fill_pools κs a z y e f p q = (same p.setup_pool q.setup_pool, same p.input_pool q.input_pool, same p.output_pool q.output_pool, same p.diag_pool q.diag_pool)
+
+pub arrays-fill_payload : Coincide 2 K·arrays-fill-payload.ps K·arrays-fill-payload.r R·arrays-fill-payload.Learnt (λ κs z y e f. (e.1.0.now ≡ f.1.0.now) × (e.1.1.0.now ≡ f.1.1.0.now))
+arrays-fill_payload κs a z y e f p q = (same p.bytes q.bytes, same p.entries q.entries)
+
 pub arrays-Arrays-fill_pools : Coincide 2 K·arrays-Arrays-fill-pools.ps K·arrays-Arrays-fill-pools.r R·arrays-Arrays-fill-pools.Learnt (λ κs z y e f. e.0.now ≡ f.0.now)
 arrays-Arrays-fill_pools κs a z y e f p q = pools_left a.0.now e.0.now f.0.now _ _ p.1 q.1 (pools_same e.0.now f.0.now (same p.0.setup_pool q.0.setup_pool) (same p.0.input_pool q.0.input_pool) (same p.0.output_pool q.0.output_pool) (same p.0.diag_pool q.0.diag_pool))
 
@@ -137,16 +147,14 @@ arrays-Arrays-clear κs a z y e f p q = pools_left (payload_is e.0.now.payload.n
 pub arrays-sums : Coincide 4 K·arrays-sums.ps K·arrays-sums.r R·arrays-sums.Learnt (λ κs z y e f. z ≡ y)
 arrays-sums κs a z y e f p q = same p q
 
-pub run-Run-add : Coincide 5 K·run-Run-add.ps K·run-Run-add.r R·run-Run-add.Learnt (λ κs z y e f. (z ≡ y) × (e.0.now ≡ f.0.now) × (e.1.1.1.1.0.now ≡ f.1.1.1.1.0.now))
-run-Run-add κs a z y e f p q = (same_handle z y (same p.0.call.refusal q.0.call.refusal) (same p.0.call.handle q.0.call.handle), run_left a.0.now e.0.now f.0.now p.1.0 q.1.0 (same p.0.call.after q.0.call.after), pools_left a.1.1.1.1.0.now e.1.1.1.1.0.now f.1.1.1.1.0.now _ _ p.1.1 q.1.1 (pools_same e.1.1.1.1.0.now f.1.1.1.1.0.now (whole a.0.now.lent.setup (ap (λ (x : Pools). x.setup) (same p.0.call.written q.0.call.written)) (same p.0.setup_pool q.0.setup_pool)) (whole a.0.now.lent.inputs (ap (λ (x : Pools). x.inputs) (same p.0.call.written q.0.call.written)) (same p.0.input_pool q.0.input_pool)) (whole a.0.now.lent.outputs (ap (λ (x : Pools). x.outputs) (same p.0.call.written q.0.call.written)) (same p.0.output_pool q.0.output_pool)) (whole a.0.now.lent.diags (ap (λ (x : Pools). x.diags) (same p.0.call.written q.0.call.written)) (same p.0.diag_pool q.0.diag_pool))))
+pub run-Run-add : Coincide 7 K·run-Run-add.ps K·run-Run-add.r R·run-Run-add.Learnt (λ κs z y e f. (z ≡ y) × (e.0.now ≡ f.0.now) × (e.1.1.1.1.0.now ≡ f.1.1.1.1.0.now) × (e.1.1.1.1.1.0.now ≡ f.1.1.1.1.1.0.now) × (e.1.1.1.1.1.1.0.now ≡ f.1.1.1.1.1.1.0.now) × (e.1.1.1.1.1.1.1.0.now ≡ f.1.1.1.1.1.1.1.0.now))
+run-Run-add κs a z y e f p q = (same_handle z y (same p.0.call.refusal q.0.call.refusal) (same p.0.call.handle q.0.call.handle), run_left a.0.now e.0.now f.0.now p.1 q.1 (same p.0.call.after q.0.call.after), whole a.0.now.lent.setup (ap (λ (x : Pools). x.setup) (same p.0.call.written q.0.call.written)) (same p.0.setup_pool q.0.setup_pool), whole a.0.now.lent.inputs (ap (λ (x : Pools). x.inputs) (same p.0.call.written q.0.call.written)) (same p.0.input_pool q.0.input_pool), whole a.0.now.lent.outputs (ap (λ (x : Pools). x.outputs) (same p.0.call.written q.0.call.written)) (same p.0.output_pool q.0.output_pool), whole a.0.now.lent.diags (ap (λ (x : Pools). x.diags) (same p.0.call.written q.0.call.written)) (same p.0.diag_pool q.0.diag_pool))
 
 pub run-Run-turn : Coincide 4 K·run-Run-turn.ps K·run-Run-turn.r R·run-Run-turn.Learnt (λ κs z y e f. (z ≡ y) × (e.0.now ≡ f.0.now) × (e.1.1.1.1.1.0.now ≡ f.1.1.1.1.1.0.now))
 run-Run-turn κs a z y e f p q = (same p.0.call.answer q.0.call.answer, run_left a.0.now e.0.now f.0.now p.1 q.1 (same p.0.call.after q.0.call.after), whole a.0.now.lent.payload (same p.0.call.bytes q.0.call.bytes) (same p.0.payload_array q.0.payload_array))
 
-pub run-Run-reply : Coincide 4 K·run-Run-reply.ps K·run-Run-reply.r R·run-Run-reply.Learnt (λ κs z y e f. (z ≡ y) × (e.0.now ≡ f.0.now) × (e.1.1.1.1.0.now ≡ f.1.1.1.1.0.now))
-run-Run-reply κs a z y e f p q = let i : e.1.1.1.1.0.now.inputs.now ≡ f.1.1.1.1.0.now.inputs.now = whole a.0.now.lent.inputs (same p.0.call.input_pool q.0.call.input_pool) (same p.0.input_pool q.0.input_pool) in
-    let d : e.1.1.1.1.0.now.diags.now ≡ f.1.1.1.1.0.now.diags.now = whole a.0.now.lent.diags (same p.0.call.diag_pool q.0.call.diag_pool) (same p.0.diag_pool q.0.diag_pool) in
-    (same p.0.call.answer q.0.call.answer, run_left a.0.now e.0.now f.0.now p.1.0 q.1.0 (same p.0.call.after q.0.call.after), pools_left a.1.1.1.1.0.now e.1.1.1.1.0.now f.1.1.1.1.0.now _ _ p.1.1 q.1.1 (rw (i, d) refl))
+pub run-Run-reply : Coincide 4 K·run-Run-reply.ps K·run-Run-reply.r R·run-Run-reply.Learnt (λ κs z y e f. (z ≡ y) × (e.0.now ≡ f.0.now) × (e.1.1.1.1.0.now ≡ f.1.1.1.1.0.now) × (e.1.1.1.1.1.0.now ≡ f.1.1.1.1.1.0.now))
+run-Run-reply κs a z y e f p q = (same p.0.call.answer q.0.call.answer, run_left a.0.now e.0.now f.0.now p.1 q.1 (same p.0.call.after q.0.call.after), whole a.0.now.lent.inputs (same p.0.call.input_pool q.0.call.input_pool) (same p.0.input_pool q.0.input_pool), whole a.0.now.lent.diags (same p.0.call.diag_pool q.0.call.diag_pool) (same p.0.diag_pool q.0.diag_pool))
 
 pub run-Run-write : Coincide 3 K·run-Run-write.ps K·run-Run-write.r R·run-Run-write.Learnt (λ κs z y e f. (z ≡ y) × (e.1.1.1.0.now ≡ f.1.1.1.0.now))
 run-Run-write κs a z y e f p q = (same_number z y (same p.call.answer q.call.answer), whole a.0.now.lent.outputs (same p.call.pool q.call.pool) (same p.output_pool q.output_pool))
@@ -172,10 +180,10 @@ run-Run-extended κs a z y e f p q = itself_same p q
 pub run-Run-listing : Coincide 2 K·run-Run-listing.ps K·run-Run-listing.r R·run-Run-listing.Learnt (λ κs z y e f. (z ≡ y) × (e.1.0.now ≡ f.1.0.now))
 run-Run-listing κs a z y e f p q = (same p.answer q.answer, same p.bytes q.bytes)
 
-pub pieces-Partial-append : Coincide 3 K·pieces-Partial-append.ps K·pieces-Partial-append.r R·pieces-Partial-append.Learnt (λ κs z y e f. e.0.now ≡ f.0.now)
-pieces-Partial-append κs a z y e f p q = same p.came q.came
+pub pieces-Partial-append : Coincide 3 K·pieces-Partial-append.ps K·pieces-Partial-append.r R·pieces-Partial-append.Learnt (λ κs z y e f. (e.0.now ≡ f.0.now) × (e.1.1.0.now ≡ f.1.1.0.now))
+pieces-Partial-append κs a z y e f p q = (same p.came q.came, same p.bytes q.bytes)
 
-pub pieces-Partial-unfinished : Coincide 2 K·pieces-Partial-unfinished.ps K·pieces-Partial-unfinished.r R·pieces-Partial-unfinished.Learnt (λ κs z y e f. z ≡ y)
+pub pieces-Partial-unfinished : Coincide 1 K·pieces-Partial-unfinished.ps K·pieces-Partial-unfinished.r R·pieces-Partial-unfinished.Learnt (λ κs z y e f. z ≡ y)
 pieces-Partial-unfinished κs a z y e f p q = same p q
 
 pub pieces-line_end : Coincide 1 K·pieces-line-end.ps K·pieces-line-end.r R·pieces-line-end.Learnt (λ κs z y e f. z ≡ y)

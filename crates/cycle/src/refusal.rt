@@ -55,6 +55,7 @@ pub fn turn_refusal(
 }
 
 // A reply: what is lent (2), the open request, to the balance at the address `asked` (9), and the telegram (10).
+#[tactic(auto, unfolding(crate::specs::Refusal::reply_refusal, refusals::specs::Table::given))]
 pub fn reply_refusal(
     u: Parameters,
     s: DpMasterState,

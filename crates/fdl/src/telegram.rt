@@ -97,6 +97,7 @@ impl FrameCountBit {
     }
 }
 
+// The number that stands for it in a record.
 impl From<FrameCountBit> for u8 {
     ghost from_gives = { λ bit n. n ≡ bit_number bit };
 
@@ -105,10 +106,10 @@ impl From<FrameCountBit> for u8 {
     }
 }
 
+// The bit of a number; any that is not 1, 2 or 3 counts as inactive. DECISIONS 20
 impl From<u8> for FrameCountBit {
     ghost from_gives = { λ n bit. bit ≡ bit_of n };
 
-    // Any number that is not 1, 2 or 3 counts as inactive. DECISIONS 20
     fn from(n: u8) -> FrameCountBit {
         match n {
             1 => FrameCountBit::First,
@@ -119,10 +120,10 @@ impl From<u8> for FrameCountBit {
     }
 }
 
+// The low bits of the function code.
 impl From<RequestType> for u8 {
     ghost from_gives = { λ kind n. n ≡ request_number kind };
 
-    // The low bits of the function code.
     fn from(kind: RequestType) -> u8 {
         kind as u8
     }

@@ -4,9 +4,11 @@
 // From turn 2 on every second turn asks the balance: diagnosis, parameters, configuration, diagnosis, and then data each time.
 // Its reply ends the cycle, since there is no other balance, and the turn after it sends nothing: it takes the place back to the first slot.
 //
-// The balance is played by `telegram` and `payload`. On a real line the header of the request and the first `len` bytes of
+// The balance is played by `weight`, `telegram` and `payload`. On a real line the header of the request and the first `len` bytes of
 // `buf` go out, and what comes back is handed in.
 #![tactic(auto)]
+
+ghost use Rattle.std.specs.Prelude.{◌≡◌, [], ◌∷◌};
 
 use answers::reply_answer::ReplyAnswer;
 use answers::turn::Transmission;
@@ -57,6 +59,13 @@ fn balance() -> Addition {
         output_len: 2,
         room: 16,
     }
+}
+
+// What lies on the balance at a turn. The last byte is the turn, so that a line shows with which reply its weight came.
+fn weight(turn: u8) -> [u8; 4]
+    ensures { result ≡ 0 ∷ 0 ∷ 9 ∷ turn ∷ [] }
+{
+    [0, 0, 9, turn]
 }
 
 // What the balance replies to a request: its diagnosis, its weight, or that it took what was sent.
@@ -135,8 +144,7 @@ fn main(rt: HostRuntime) -> io::Result<()> {
         let sent = m.transmit_telegram(time, false, &setup, &outputs, &mut buf);
         // The global control gets no reply.
         if let Transmission::Request { kind, header, .. } = sent.transmission {
-            // The last byte of the weight is the turn, so that a line shows with which reply it came.
-            let weight = [0, 0, 9, turn];
+            let weight = weight(turn);
             let came = payload(kind, b"\x00\x0C\x00\x02\x12\x34", &weight);
             let answer = m.receive_reply(header.da, telegram(kind), came, &mut inputs, &mut diags);
             report(&rt, &m, answer, turn, &inputs)?;

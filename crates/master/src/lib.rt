@@ -1,4 +1,4 @@
-// The DP master: one record by value over lent pools.
+// The DP master: one record over lent pools, which its calls change where it stands.
 #![tactic(auto)]
 
 pub mod add;

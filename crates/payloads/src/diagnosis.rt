@@ -52,6 +52,7 @@ pub enum DiagnosticFlags {
     PermanentBit = 0x0400,
 }
 
+// Its weight in the flags, a power of 2.
 impl From<DiagnosticFlags> for u16 {
     ghost from_gives = { λ f n. n ≡ flag_weight f };
 

@@ -32,6 +32,7 @@ pub fn control_header(sa: u8) -> DataTelegramHeader
     }
 }
 
+// Its number, 1 to 4; 0 stands for no request.
 impl From<Request> for u8 {
     ghost from_gives = { λ k n. n ≡ kind_number k };
 
@@ -40,10 +41,10 @@ impl From<Request> for u8 {
     }
 }
 
+// The request that a kept number stands for; a number that is none of the four counts as a diagnosis, so that no weight comes of it.
 impl From<u8> for Request {
     ghost from_gives = { λ n k. k ≡ request_numbered n };
 
-    // A number that is none of the four counts as a diagnosis, so that no weight comes of it.
     fn from(n: u8) -> Request {
         match n {
             2 => Request::Parameters,

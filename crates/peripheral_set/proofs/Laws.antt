@@ -11,6 +11,7 @@ use Prim.Native.Nat.{ℕ, zero, suc, ◌+◌, ◌-◌, ◌≤◌, ◌<◌}
 use native.Mathlib.Decide.{dec_le}
 use native.Mathlib.Omega.{arith}
 use native.Mathlib.Numerals.{add-one}
+use mir.Val.{bool_byte}
 use lib.ListN.{get_or, length, take, drop, drop_of_length-le}
 use lib.Seq.{drop-cons}
 use lib.Dec.{ltb, leb}
@@ -147,6 +148,23 @@ find_mark marks zero i e = refl
 find_mark marks (suc k) i e = by_test (get_or marks i false) (λ t. rw t (sym (slot_some i (omega arith)))) (λ t. rw t (find_mark marks k (i + 1) (omega arith)))
 
 -- ---- the listing
+
+-- it looks at one slot, and goes on
+module _ (n : ℕ) (marks : List Bool) (i : ℕ) where
+  pub listed-step : i < n → listed_from (n - i) marks i ≡ cond (get_or marks i false) (i ∷ listed_from (n - (i + 1)) marks (i + 1)) (listed_from (n - (i + 1)) marks (i + 1))
+  unfolding listed_from
+  listed-step l = let k : n - i ≡ suc (n - (i + 1)) = omega arith in rw k refl
+
+  pub length_step : i < n → length (listed_from (n - i) marks i) ≡ bool_byte (get_or marks i false) + length (listed_from (n - (i + 1)) marks (i + 1))
+  length_step l = rw (listed-step l) (by_test (get_or marks i false) (λ t. rw t (omega arith)) (λ t. rw t (omega arith)))
+
+  pub length_end : n ≤ i → length (listed_from (n - i) marks i) ≡ 0
+  unfolding listed_from
+  length_end l = let z : n - i ≡ 0 = omega arith in rw z refl
+
+pub one_most : (b : Bool) → bool_byte b ≤ 1
+one_most true = omega arith
+one_most false = omega arith
 
 -- the listing is what the marks leave of the slots
 pub listed_filter : (marks : List Bool) (k i : ℕ) → filter (λ s. get_or marks s false) (range_with_len i k) ≡ listed_from k marks i

@@ -80,7 +80,11 @@ pub fn is_occupied(marks: &[bool; SLOTS], slot: usize) -> bool
 pub fn count(marks: &[bool; SLOTS]) -> usize
     ensures { result ≡ length (listed marks.now) }
 {
-    marks.iter().filter(|&&mark| mark).count()
+    let mut n = 0;
+    for &mark in marks {
+        n += usize::from(mark);
+    }
+    n
 }
 
 // The n-th occupied slot, counted from 0, if there are so many.

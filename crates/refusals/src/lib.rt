@@ -32,6 +32,7 @@ pub enum Refusal {
     BadLength,
 }
 
+// The number that 01 gives it, 1 to 11; 0 stands for done.
 impl From<Refusal> for u8 {
     ghost from_gives = { λ r n. n ≡ refusal_number r };
 

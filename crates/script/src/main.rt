@@ -101,7 +101,15 @@ fn answer(
         } => {
             let user = parts::part(a, 0, user);
             let config = parts::part(b, 0, config);
-            match run.add(addition, user, config, arrays) {
+            match run.add(
+                addition,
+                user,
+                config,
+                arrays.setup,
+                arrays.inputs,
+                arrays.outputs,
+                arrays.diags,
+            ) {
                 Ok(handle) => script_answers::added(out, 0, handle),
                 Err(refusal) => script_answers::numbered(out, b'A', u64::from(u8::from(refusal))),
             }
@@ -130,7 +138,7 @@ fn answer(
             len,
         } => {
             let payload = parts::part(a, 0, len);
-            let answered = run.reply(address, telegram, payload, arrays);
+            let answered = run.reply(address, telegram, payload, arrays.inputs, arrays.diags);
             script_answers::reply(out, answered);
         }
         Call::Reset { handle, address } => {
@@ -216,8 +224,10 @@ fn flushed(rt: &impl Print, out: &mut Text) -> io::Result<()>
 struct Driver<'a> {
     run: Run,
     arrays: Arrays<'a>,
-    // What came of a line.
-    came: Partial<'a>,
+    // The array of a line, what came of it at the front.
+    text: &'a mut [u8],
+    // How much of the line came.
+    came: Partial,
 }
 
 impl Driver<'_> {
@@ -226,7 +236,7 @@ impl Driver<'_> {
         let mut a = [0u8; 255];
         let mut b = [0u8; 255];
         let filled = self.came.filled;
-        let asked = script_lines::parse(parts::part(self.came.line, 0, filled), &mut a, &mut b);
+        let asked = script_lines::parse(parts::part(self.text, 0, filled), &mut a, &mut b);
         match script_driver::run::call_made(self.run.made, self.came.long, asked) {
             Some(call) => {
                 answer(&mut self.run, &mut self.arrays, call, &a, &b, out);
@@ -245,7 +255,7 @@ impl Driver<'_> {
         let mut i = 0;
         while i < chunk.len() {
             let end = script_driver::pieces::line_end(chunk, i);
-            self.came.append(parts::part(chunk, i, end - i));
+            self.came.append(parts::part(chunk, i, end - i), self.text);
             if end < chunk.len() {
                 flushed(rt, out)?;
                 self.line(out);
@@ -296,14 +306,14 @@ fn main(rt: HostRuntime) -> io::Result<()> {
         list: &mut [0; 120],
     };
     let came = Partial {
-        // a line has at most 2,000 bytes with its newline
-        line: &mut [0; 1999],
         filled: 0,
         long: false,
     };
     let mut driver = Driver {
         run: Run::empty(),
         arrays,
+        // a line has at most 2,000 bytes with its newline
+        text: &mut [0; 1999],
         came,
     };
     let mut out = Text {

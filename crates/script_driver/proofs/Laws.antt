@@ -27,7 +27,7 @@ use Rattle.script_driver.specs.Pieces.{newline_in}
 
 -- ---- a lent front
 
-short_le : (n len : ℕ) → short_of n len ≤ len
+pub short_le : (n len : ℕ) → short_of n len ≤ len
 short_le n len = by_test (leb n len) (λ e. rw e (leb-true n len e)) (λ e. rw e (omega arith))
 
 pub short_take : (n k : ℕ) (l : List ℕ) → k ≡ short_of n (length l) → take k l ≡ lend n l
@@ -35,7 +35,7 @@ short_take n k l e =
     by_test (leb n (length l)) (λ t. let w : k ≡ n = e ∙ rw t refl in rw w refl)
     (λ t. let w : k ≡ length l = e ∙ rw t refl in take_all k l (omega arith) ∙ sym (take_all n l (omega (arith, leb-false n (length l) t))))
 
-front_le : (n k : ℕ) (l : List ℕ) → k ≡ short_of n (length l) → k ≤ length l
+pub front_le : (n k : ℕ) (l : List ℕ) → k ≡ short_of n (length l) → k ≤ length l
 front_le n k l e = omega (arith, short_le n (length l))
 
 -- what a call left of the first k of old: the array is that in front, and behind it as it was

@@ -14,11 +14,11 @@ abbrev pub line_end : ℕ → List ℕ → ℕ
 line_end from s = newline_in (length s - from) from s
 
 -- a piece goes behind what came of the line; what does not fit is left out, and the line is too long
-pub record Appended (piece : List ℕ) (old new : Partial) : Type 0 where
-  pub came : new
-      ≡ cond (room_for old.filled (length piece) piece old.line.now)
-      (record old { line = record old.line { now = put_in old.filled (length piece) piece old.line.now }; filled = old.filled + length piece })
-      (record old { line = record old.line { now = put_in old.filled (length piece) piece old.line.now }; long = true })
+pub record Appended (p : Partial) (piece line out : List ℕ) (r : Partial) : Type 0 where
+  pub came : r
+      ≡ cond (room_for p.filled (length piece) piece line) (record { filled = p.filled + length piece; long = p.long })
+      (record { filled = p.filled; long = true })
+  pub bytes : out ≡ put_in p.filled (length piece) piece line
 
 -- something came of a line that did not end
 abbrev pub is_unfinished : Partial → Bool

@@ -83,25 +83,39 @@ pub fn put_entries(unit: &DpMaster, list: &mut [u8]) -> usize
     3 * count
 }
 
+// P: all bytes of the four pool arrays become `b`.
+pub fn fill_pools(b: u8, setup: &mut [u8], inputs: &mut [u8], outputs: &mut [u8], diags: &mut [u8])
+    ensures { PoolsFilled b setup.old inputs.old outputs.old diags.old setup.new inputs.new outputs.new diags.new }
+{
+    fill(setup, b);
+    fill(inputs, b);
+    fill(outputs, b);
+    fill(diags, b);
+}
+
+// F: all payload bytes become `b`, all entries of the list (b, b, b mod 2).
+pub fn fill_payload(b: u8, payload: &mut [u8], list: &mut [u8])
+    ensures { PayloadFilled b payload.old list.old payload.new list.new }
+{
+    fill(payload, b);
+    fill_list(list, b);
+}
+
 impl Arrays<'_> {
-    // P: all bytes of the four pool arrays become `b`.
+    // P: `fill_pools` of these arrays.
     pub fn fill_pools(&mut self, b: u8)
         ensures bytes { PoolsFilled b self.old.setup.now self.old.inputs.now self.old.outputs.now self.old.diags.now self.new.setup.now self.new.inputs.now self.new.outputs.now self.new.diags.now }
         ensures others { self.new ≡ pools_are (pools_held self.new) self.old }
     {
-        fill(self.setup, b);
-        fill(self.inputs, b);
-        fill(self.outputs, b);
-        fill(self.diags, b);
+        fill_pools(b, self.setup, self.inputs, self.outputs, self.diags);
     }
 
-    // F: all payload bytes become `b`, all entries of the list (b, b, b mod 2).
+    // F: `fill_payload` of these arrays.
     pub fn fill_payload(&mut self, b: u8)
         ensures bytes { PayloadFilled b self.old.payload.now self.old.list.now self.new.payload.now self.new.list.now }
         ensures others { self.new ≡ payload_is self.new.payload.now (list_is self.new.list.now self.old) }
     {
-        fill(self.payload, b);
-        fill_list(self.list, b);
+        fill_payload(b, self.payload, self.list);
     }
 
     // N: all arrays become zero.

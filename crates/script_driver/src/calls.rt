@@ -5,11 +5,10 @@ ghost use Rattle.refusals.specs.Table.{outcome, number_of};
 ghost use Rattle.master.specs.Pools.{lend};
 ghost use Rattle.master.specs.Add.{added_of};
 ghost use Rattle.access.specs.Lookup.{found_in, input_number, output_number, diag_number, inputs_seen, outputs_seen, extended_seen, last_of};
-ghost use Rattle.script_driver.specs.Arrays.{pools_held, pools_are, payload_is};
 ghost use Rattle.script_driver.specs.Run.{unit_is};
 ghost use Rattle.script_driver.specs.Calls.{LentAdd, LentTurn, LentReply, LentWrite, ListingDone};
 
-use crate::arrays::{Arrays, front, lent, put_entries};
+use crate::arrays::{front, lent, put_entries};
 use crate::run::Run;
 use answers::reply_answer::ReplyAnswer;
 use answers::turn::TurnAnswer;
@@ -26,24 +25,26 @@ impl Run {
         addition: Addition,
         user: &[u8],
         config: &[u8],
-        arrays: &mut Arrays,
+        setup: &mut [u8],
+        inputs: &mut [u8],
+        outputs: &mut [u8],
+        diags: &mut [u8],
     ) -> Result<PeripheralHandle, Refusal>
-        ensures call { LentAdd self.old addition user.now config.now arrays.old.setup.now arrays.old.inputs.now arrays.old.outputs.now arrays.old.diags.now arrays.new.setup.now arrays.new.inputs.now arrays.new.outputs.now arrays.new.diags.now (added_of result self.new.unit) }
+        ensures call { LentAdd self.old addition user.now config.now setup.old inputs.old outputs.old diags.old setup.new inputs.new outputs.new diags.new (added_of result self.new.unit) }
         ensures run { self.new ≡ unit_is self.new.unit self.old }
-        ensures others { arrays.new ≡ pools_are (pools_held arrays.new) arrays.old }
     {
-        let s = front(self.lent.setup, arrays.setup.len());
-        let i = front(self.lent.inputs, arrays.inputs.len());
-        let q = front(self.lent.outputs, arrays.outputs.len());
-        let d = front(self.lent.diags, arrays.diags.len());
+        let s = front(self.lent.setup, setup.len());
+        let i = front(self.lent.inputs, inputs.len());
+        let q = front(self.lent.outputs, outputs.len());
+        let d = front(self.lent.diags, diags.len());
         self.unit.add(
             addition,
             user,
             config,
-            &mut arrays.setup[..s],
-            &mut arrays.inputs[..i],
-            &mut arrays.outputs[..q],
-            &mut arrays.diags[..d],
+            &mut setup[..s],
+            &mut inputs[..i],
+            &mut outputs[..q],
+            &mut diags[..d],
         )
     }
 
@@ -76,20 +77,20 @@ impl Run {
         address: u8,
         telegram: Telegram,
         payload: &[u8],
-        arrays: &mut Arrays,
+        inputs: &mut [u8],
+        diags: &mut [u8],
     ) -> ReplyAnswer
-        ensures call { LentReply self.old address telegram payload.now arrays.old.inputs.now arrays.old.diags.now arrays.new.inputs.now arrays.new.diags.now (record { master = self.new.unit; answer = result }) }
+        ensures call { LentReply self.old address telegram payload.now inputs.old diags.old inputs.new diags.new (record { master = self.new.unit; answer = result }) }
         ensures run { self.new ≡ unit_is self.new.unit self.old }
-        ensures others { arrays.new ≡ pools_are (record (pools_held arrays.old) { inputs = arrays.new.inputs.now; diags = arrays.new.diags.now }) arrays.old }
     {
-        let i = front(self.lent.inputs, arrays.inputs.len());
-        let d = front(self.lent.diags, arrays.diags.len());
+        let i = front(self.lent.inputs, inputs.len());
+        let d = front(self.lent.diags, diags.len());
         self.unit.receive_reply(
             address,
             telegram,
             payload,
-            &mut arrays.inputs[..i],
-            &mut arrays.diags[..d],
+            &mut inputs[..i],
+            &mut diags[..d],
         )
     }
 

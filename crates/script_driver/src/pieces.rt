@@ -2,13 +2,11 @@
 ghost use Rattle.std.specs.Prelude.{◌≡◌};
 ghost use Rattle.script_driver.specs.Pieces.{line_end, Appended, is_unfinished};
 
-// What came of a line, at the front of a lent array.
+// How much of a line came, and whether it is too long.
 // The mark stands beside the count, and is no `Option`, since what fits stays after a piece that does not: `Appended`.
-#[derive(Drop)]
-pub struct Partial<'a> {
-    // The whole array, which goes on behind what came.
-    pub line: &'a mut [u8],
-    // Bytes of the line that came so far and fit.
+#[derive(Clone, Copy)]
+pub struct Partial {
+    // Bytes of the line that came so far and fit, at the front of the line's array.
     pub filled: usize,
     // Whether a piece did not fit: the line is then no call.
     pub long: bool,
@@ -23,12 +21,12 @@ pub fn line_end(s: &[u8], from: usize) -> usize
         .unwrap_or(from.max(s.len()))
 }
 
-impl Partial<'_> {
+impl Partial {
     // A piece of a line goes behind what came of it; a piece that does not fit makes the line too long.
-    pub fn append(&mut self, piece: &[u8])
-        ensures { Appended piece.now self.old self.new }
+    pub fn append(&mut self, piece: &[u8], line: &mut [u8])
+        ensures { Appended self.old piece.now line.old line.new self.new }
     {
-        if parts::copy_at(self.line, self.filled, piece.len(), piece) {
+        if parts::copy_at(line, self.filled, piece.len(), piece) {
             self.filled += piece.len();
         } else {
             self.long = true;

@@ -41,6 +41,7 @@ pub enum PeripheralEvent {
     Offline = 7,
 }
 
+// The number that stands for it in a record.
 impl From<PeripheralState> for u8 {
     ghost from_gives = { λ state n. n ≡ number_of state };
 
@@ -49,10 +50,10 @@ impl From<PeripheralState> for u8 {
     }
 }
 
+// The state of a number; a number that stands for none counts as Offline.
 impl From<u8> for PeripheralState {
     ghost from_gives = { λ n state. state ≡ state_of n };
 
-    // A number that stands for none counts as Offline.
     fn from(n: u8) -> PeripheralState {
         match n {
             1 => PeripheralState::WaitForParam,
@@ -65,6 +66,7 @@ impl From<u8> for PeripheralState {
     }
 }
 
+// The number that stands for it in an answer.
 impl From<PeripheralEvent> for u8 {
     ghost from_gives = { λ event n. n ≡ event_number event };
 

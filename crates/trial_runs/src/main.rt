@@ -111,9 +111,9 @@ struct Reading {
 }
 
 impl Reading {
-    // Whether the state of the balance is this one.
+    // Whether the state of the balance is this one, by its number: another number counts as Offline, and is none of them.
     fn is_in(self, state: PeripheralState) -> bool {
-        PeripheralState::from(self.after.state) == state
+        self.after.state == u8::from(state)
     }
 }
 
@@ -264,19 +264,19 @@ fn one_byte_image() -> Result<bool, Refusal> {
     )
 }
 
-// The add that comes after so many, all of which have to be done.
-fn add_after(count: u8) -> Result<PeripheralHandle, Refusal> {
+// A bench with so many balances, all of which had to be added.
+fn filled(count: u8) -> Result<Bench, Refusal> {
     let mut b = Bench::new(1);
     for i in 0..count {
         add_plain(&mut b, 10 + i % 64)?;
     }
-    add_plain(&mut b, ADDRESS)
+    Ok(b)
 }
 
 // 13: 32nd add done, 33rd is 5.
 fn full_table() -> Result<bool, Refusal> {
-    add_after(31)?;
-    Ok(add_after(32) == Err(Refusal::TableFull))
+    add_plain(&mut filled(31)?, ADDRESS)?;
+    Ok(add_plain(&mut filled(32)?, ADDRESS) == Err(Refusal::TableFull))
 }
 
 // An add with so many bytes of user parameters.

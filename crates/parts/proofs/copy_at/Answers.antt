@@ -1,6 +1,7 @@
 -- `copy_at` meets its contract: what does not fit is refused, and the library's copy into the part leaves the splice.
 use mathlib.Core.Path.{sym, ◌∙◌}
 use native.Mathlib.Omega.{arith}
+use Rattle.std.proofs.Common.{rules}
 use Rattle.parts.proofs.Laws.{refused, written, room_too_long, room_outside, inside-leb}
 use Rattle.parts.proofs.copy_at.Goals as goal
 use Rattle.parts.proofs.copy_at.Goals.{then-room-src-via-then-room-src, then-room-src-via-else-room-src+then-not-inside}
@@ -16,5 +17,5 @@ returns-then-room-src c = let a = c.args in
 
 pub returns : goal.returns
 returns c = let a = c.args in
-    written a.at a.room a.src.now a.dst.now _ _ (omega arith) c.copy_from_slice.ensures.after c.if-room-src.false
+    written a.at a.room a.src.now a.dst.now _ _ (omega arith) (search rules) c.if-room-src.false
     (sym (inside-leb a.at a.room a.dst.now) ∙ sym c.inside.ensures ∙ c.if-not-inside.false)

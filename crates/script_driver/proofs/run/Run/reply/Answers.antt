@@ -4,7 +4,7 @@ use Rattle.script_driver.proofs.run.Run.reply.Goals as goal
 
 pub returns-clause-call : goal.returns-clause-call
 returns-clause-call c = let l = c.args.self.now.lent in
-    let a = c.args.arrays.now in
+    let a = c.args in
     let i = c.front-i in
     let d = c.front-d in
     let t = c.receive_reply in
